@@ -1,0 +1,4 @@
+pub mod Laws
+pub mod Theorems
+pub mod Examples
+pub mod Determined
