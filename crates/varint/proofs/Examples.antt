@@ -3,7 +3,7 @@ use Prim.Native.Nat.{ℕ, _-_, _^_}
 use mathlib.Core.Path.{_≡_, refl}
 use mathlib.Core.List.{List, [], _∷_}
 use Rattle.answers.specs.Answers.{SHORT, RANGE, ROOM}
-use Rattle.varint.specs.Varint.{width, logOf, readVarint, readAt, sizeOf, encode, done, writeVarint}
+use Rattle.varint.specs.Varint.{width, logOf, readVarint, readAt, sizeOf, form, encode, done, writeVarint}
 use Rattle.varint.specs.declared.Got.the-variants as got
 use Rattle.varint.specs.declared.Wrote.the-variants as wrote
 
@@ -84,16 +84,16 @@ unfolding sizeOf logOf
 size-2^62 = refl
 
 pub writes-15293 : encode 15293 ≡ 0x7b ∷ 0xbd ∷ []
-unfolding encode logOf
+unfolding encode form logOf
 writes-15293 = refl
 
 -- 37 in one byte alone, and what stood behind it as it was
 pub writes-37 : writeVarint (9 ∷ 9 ∷ []) 37 ≡ done (wrote.Len 1) (0x25 ∷ 9 ∷ [])
-unfolding writeVarint encode logOf
+unfolding writeVarint encode form logOf
 writes-37 = refl
 
 pub writes-2^62-1 : encode (2 ^ 62 - 1) ≡ 0xff ∷ 0xff ∷ 0xff ∷ 0xff ∷ 0xff ∷ 0xff ∷ 0xff ∷ 0xff ∷ []
-unfolding encode logOf
+unfolding encode form logOf
 writes-2^62-1 = refl
 
 -- RANGE before ROOM

@@ -12,7 +12,7 @@ use lib.Dec.{lit<, ltb, leb}
 use lib.Pow.{pow-mono, pow-pos}
 use borrow.Author.Tests.{lt-ltb, le-ltb, le-leb, lt-leb, ltb-true, ltb-false}
 use Rattle.answers.specs.Answers.{SHORT, RANGE, ROOM}
-use Rattle.varint.specs.Varint.{width, digits, logOf, readVarint, readAt, sound, soundAt, bytes, lenOf, sizeOf, marked, encode, done, writeVarint}
+use Rattle.varint.specs.Varint.{width, digits, logOf, readVarint, readAt, sound, soundAt, bytes, lenOf, sizeOf, marked, form, encode, done, writeVarint}
 use Rattle.varint.specs.declared.Got.{Got}
 use Rattle.varint.specs.declared.Got.the-variants as got
 use Rattle.varint.specs.declared.Wrote.the-variants as wrote
@@ -139,7 +139,7 @@ module _ (v : ℕ) (out : List ℕ) where
         rw (lt-ltb v (2 ^ 62) h, lt-leb (lenOf v) (length out) (omega arith))
 
     pub writes-len : n ≤ length out → done (wrote.Len n) (bytes n (marked v) ++ drop n out) ≡ writeVarint out v
-    unfolding writeVarint encode
+    unfolding writeVarint encode form
     writes-len g =
         let e = size-fits v h in
         rw (lt-ltb v (2 ^ 62) h, le-leb (lenOf v) (length out) (omega arith), z, e)

@@ -11,21 +11,25 @@ use lib.ListN.{getD, length, take, drop, length-append}
 use lib.Seq.{getD-at, take-suc}
 use lib.Arith.{mod-mul}
 use lib.Pow.{pow-lt}
-use Rattle.varint.specs.Varint.{width, digits, logOf, readVarint, bytes, lenOf, marked, encode, writeVarint}
+use Rattle.varint.specs.Varint.{width, digits, logOf, readVarint, bytes, lenOf, marked, form, Fits, encode, writeVarint}
 use Rattle.varint.specs.declared.Got.the-variants.{Value}
-use Rattle.varint.proofs.Laws.{order, width-1, width-2, width-4, width-8, reads-value, writes-len, size-fits, reads-short, log-0, log-1, log-2, log-3}
+use Rattle.varint.proofs.Laws.{order, width-1, width-2, width-4, width-8, digits-lt, reads-value, writes-len, size-fits, reads-short, log-0, log-1, log-2, log-3}
 
 pub length-bytes : (n x : ℕ) → length (bytes n x) ≡ n
 length-bytes zero x = refl
 length-bytes (suc n) x = simp (length-append, length-bytes n (x / 256)) (omega arith)
 
+pub length-form : (k v : ℕ) → length (form k v) ≡ 2 ^ k
+unfolding form
+length-form k v = length-bytes (2 ^ k) (k * 2 ^ (8 * 2 ^ k - 2) + v)
+
 pub length-encode : (v : ℕ) → length (encode v) ≡ lenOf v
 unfolding encode
-length-encode v = length-bytes (lenOf v) (marked v)
+length-encode v = length-form (logOf v) v
 
 -- What write leaves, where there is room.
 pub leaves : (v : ℕ) (out : List ℕ) → v < 2 ^ 62 → lenOf v ≤ length out → writeVarint out v .mem ≡ encode v ++ drop (lenOf v) out
-unfolding encode
+unfolding encode form
 leaves v out h l = let e = size-fits v h in sym (ap (λ d. d .mem) (writes-len v out h (sym e) l))
 
 -- The digits of n + 1 bytes are the number that the bytes hold, without its top two bits.
@@ -60,20 +64,33 @@ round-8 v rest h =
     let d : digits (bytes 8 (13835058055282163712 + v) ++ rest) 7 ≡ v = rw (digits-bytes 7 (13835058055282163712 + v) rest) (omega arith) in
     rw (reads-value (bytes 8 (13835058055282163712 + v) ++ rest) (rw w (omega arith)), w, d)
 
--- What is written is read back, whatever follows.
-pub round : (v : ℕ) (rest : List ℕ) → v < 2 ^ 62 → readVarint (encode v ++ rest) ≡ Value v (lenOf v)
-unfolding encode
-round v rest h =
+-- A number in any length that it fits is read, whatever follows.
+pub reads-form : (k v : ℕ) (rest : List ℕ) → Fits k v → readVarint (form k v ++ rest) ≡ Value v (2 ^ k)
+unfolding form
+reads-form zero v rest h = rw (zero-add v) (round-1 v rest (h .1))
+reads-form (suc zero) v rest h = round-2 v rest (h .1)
+reads-form (suc (suc zero)) v rest h = round-4 v rest (h .1)
+reads-form (suc (suc (suc zero))) v rest h = round-8 v rest (h .1)
+reads-form (suc (suc (suc (suc k)))) v rest h = let z : ⊥ = omega arith in absurd z
+
+-- A varint fits its shortest length.
+pub short-fits : (v : ℕ) → v < 2 ^ 62 → Fits (logOf v) v
+short-fits v h =
     ⊎-elim
-    (λ l. rw (log-0 v l) (rw (zero-add v) (round-1 v rest l)))
+    (λ l. rw (log-0 v l) (omega arith, omega arith))
     (λ g. ⊎-elim
-    (λ l. rw (log-1 v g l) (round-2 v rest l))
+    (λ l. rw (log-1 v g l) (omega arith, omega arith))
     (λ g. ⊎-elim
-    (λ l. rw (log-2 v g l) (round-4 v rest l))
-    (λ g. rw (log-3 v g) (round-8 v rest h))
+    (λ l. rw (log-2 v g l) (omega arith, omega arith))
+    (λ g. rw (log-3 v g) (omega arith, h))
     (order v 1073741824))
     (order v 16384))
     (order v 64)
+
+-- What is written is read back, whatever follows.
+pub round : (v : ℕ) (rest : List ℕ) → v < 2 ^ 62 → readVarint (encode v ++ rest) ≡ Value v (lenOf v)
+unfolding encode
+round v rest h = reads-form (logOf v) v rest (short-fits v h)
 
 -- Powers of two are different where their exponents are.
 same-power : (i j : ℕ) → 2 ^ i ≡ 2 ^ j → i ≡ j
@@ -99,24 +116,40 @@ module _ (s : List ℕ) (h : (k : ℕ) → getD s k 0 < 256) where
       let m : suc n ≤ length s = omega arith in
       rw (take-suc s (suc n) 0 l, q, r, bytes-num n m)
 
-  -- The bytes that were read are those of the number, with the logarithm above it.
-  form : (k : ℕ) → getD s 0 0 / 64 ≡ k → 2 ^ k ≤ length s → bytes (2 ^ k) (k * 2 ^ (8 * 2 ^ k - 2) + digits s (2 ^ k - 1)) ≡ take (2 ^ k) s
-  form zero e l = let q : 0 * 2 ^ 6 + digits s 0 ≡ num s 0 = omega (arith, h 0) in rw q (bytes-num 0 l)
-  form (suc zero) e l = let q : 1 * 2 ^ 14 + digits s 1 ≡ num s 1 = omega (arith, h 0) in rw q (bytes-num 1 l)
-  form (suc (suc zero)) e l = let q : 2 * 2 ^ 30 + digits s 3 ≡ num s 3 = omega (arith, h 0) in rw q (bytes-num 3 l)
-  form (suc (suc (suc zero))) e l = let q : 3 * 2 ^ 62 + digits s 7 ≡ num s 7 = omega (arith, h 0) in rw q (bytes-num 7 l)
-  form (suc (suc (suc (suc k)))) e l = let z : ⊥ = omega (arith, h 0) in absurd z
+  -- The bytes that were read are a form of the number, which fits it.
+  form-of : (k : ℕ) → getD s 0 0 / 64 ≡ k → 2 ^ k ≤ length s → Fits k (digits s (2 ^ k - 1)) × (take (2 ^ k) s ≡ form k (digits s (2 ^ k - 1)))
+  unfolding form
+  form-of zero e l =
+      let q : 0 * 2 ^ 6 + digits s 0 ≡ num s 0 = omega (arith, h 0) in
+      ((omega arith, digits-lt s h 0), rw q (sym (bytes-num 0 l)))
+  form-of (suc zero) e l =
+      let q : 1 * 2 ^ 14 + digits s 1 ≡ num s 1 = omega (arith, h 0) in
+      ((omega arith, digits-lt s h 1), rw q (sym (bytes-num 1 l)))
+  form-of (suc (suc zero)) e l =
+      let q : 2 * 2 ^ 30 + digits s 3 ≡ num s 3 = omega (arith, h 0) in
+      ((omega arith, digits-lt s h 3), rw q (sym (bytes-num 3 l)))
+  form-of (suc (suc (suc zero))) e l =
+      let q : 3 * 2 ^ 62 + digits s 7 ≡ num s 7 = omega (arith, h 0) in
+      ((omega arith, digits-lt s h 7), rw q (sym (bytes-num 7 l)))
+  form-of (suc (suc (suc (suc k)))) e l = let z : ⊥ = omega (arith, h 0) in absurd z
 
-  -- What is read in its shortest form is what is written.
-  pub shortest : (v n : ℕ) → readVarint s ≡ Value v n → n ≡ lenOf v → take n s ≡ encode v
-  unfolding encode width
-  shortest v n e m =
+  -- What is read is a form of the value: its length is a power of two, and its bytes are that form.
+  pub read-form : (v n : ℕ) → readVarint s ≡ Value v n → (k : ℕ) × (Fits k v × ((n ≡ 2 ^ k) × (take n s ≡ form k v)))
+  unfolding width
+  read-form v n e =
       ⊎-elim
       (λ l. let y : _≡_ {A = ℕ} 0 1 = cc (reads-short s l) in let z : ⊥ = omega arith in absurd z)
       (λ l.
-      let b = getD s 0 0 in
-      let w : n ≡ 2 ^ (b / 64) = cc (reads-value s l) in
-      let d : v ≡ digits s (2 ^ (b / 64) - 1) = cc (reads-value s l) in
-      let g : logOf v ≡ b / 64 = same-power (logOf v) (b / 64) (sym m ∙ w) in
-      rw (w, g) (rw d (sym (form (b / 64) refl l))))
+      let k = getD s 0 0 / 64 in
+      let w : n ≡ 2 ^ k = cc (reads-value s l) in
+      let d : v ≡ digits s (2 ^ k - 1) = cc (reads-value s l) in
+      let f = form-of k refl l in
+      (k, (rw d (f .0), (w, rw (w, d) (f .1)))))
       (order (length s) (width (getD s 0 0)))
+
+  -- What is read in its shortest length is what is written.
+  pub shortest : (v n : ℕ) → readVarint s ≡ Value v n → n ≡ lenOf v → take n s ≡ encode v
+  unfolding encode
+  shortest v n e m =
+      let f = read-form v n e in
+      f .1 .1 .1 ∙ ap (λ (k : ℕ). form k v) (same-power (f .0) (logOf v) (sym (f .1 .1 .0) ∙ m))

@@ -63,9 +63,16 @@ sizeOf v = cond (ltb v (2 ^ 62)) (lenOf v) 0
 abbrev pub marked : ℕ → ℕ
 marked v = logOf v * 2 ^ (8 * lenOf v - 2) + v
 
+-- v in 2 ^ k bytes: k in their top two bits, v in the others. A number may stand in any length that it fits.
+unfoldable pub form : ℕ → ℕ → List ℕ
+form k v = bytes (2 ^ k) (k * 2 ^ (8 * 2 ^ k - 2) + v)
+
+abbrev pub Fits : ℕ → ℕ → Type 0
+Fits k v = (k ≤ 3) × (v < 2 ^ (8 * 2 ^ k - 2))
+
 -- The shortest form of v.
 unfoldable pub encode : ℕ → List ℕ
-encode v = bytes (lenOf v) (marked v)
+encode v = form (logOf v) v
 
 -- An outcome of writing: the answer, and what the buffer then holds.
 pub record Done : Type 0 where
