@@ -1,0 +1,63 @@
+-- `put` meets its contract. The loop's invariant: the bytes of what is left of x, before those already stored, are the bytes of x.
+-- The measure is how many are left to store.
+use borrow.Author.Needs.{needs}
+use Prim.Native.Nat.{ℕ, _≤_}
+use mathlib.Core.Path.{_≡_, ap, sym, _∙_}
+use mathlib.Core.List.{_++_}
+use lib.ListN.{length, drop, length-set}
+use native.Mathlib.Omega.{arith}
+use Rattle.packet_number.specs.PacketNumber.{bytes}
+use Rattle.packet_number.proofs.Laws.{bytes-step}
+use Rattle.packet_number.proofs.put.Statement.{statement}
+use Rattle.packet_number.proofs.put.Tie as tie
+
+abbrev Inv-loop : tie.InvT-loop
+Inv-loop out₀ len x i₀ rest₀ out i rest =
+    (i ≤ length out) × ((length out ≡ length out₀) × (bytes i rest ++ drop i out ≡ bytes len x ++ drop len out₀))
+
+abbrev μ-loop : tie.MeasureT-loop
+μ-loop out₀ len x i₀ rest₀ out i rest = i
+
+loop-holds : tie.Need-loop-holds Inv-loop μ-loop
+loop-holds c = search needs
+
+sub-i : tie.Need-sub-i Inv-loop μ-loop
+sub-i c = search needs
+
+cast-out : tie.Need-cast-out Inv-loop μ-loop
+cast-out c = search needs
+
+slice-write-out : tie.Need-slice-write-out Inv-loop μ-loop
+slice-write-out c = search needs
+
+loop-less : tie.Need-loop-less Inv-loop μ-loop
+loop-less c = search needs
+
+loop-again : tie.Need-loop-again Inv-loop μ-loop
+loop-again c =
+    let l = c .before .loop in
+    (simp length-set (omega arith), (simp length-set (l .inv .1 .0), bytes-step (l .i) (l .rest) (l .out) (omega arith) (omega arith) ∙ l .inv .1 .1))
+
+same-length : tie.Need-same-length Inv-loop μ-loop
+same-length c = search needs
+
+returns : tie.Need-returns Inv-loop μ-loop
+returns c =
+    let l = c .before .loop in
+    let e : l .i ≡ 0 = omega arith in
+    sym (ap (λ (k : ℕ). bytes k (l .rest) ++ drop k (l .out)) e) ∙ l .inv .1 .1
+
+pub put-spec : {M : Type 1} → statement M
+put-spec =
+    tie.close
+    (tie.spec
+    Inv-loop
+    μ-loop
+    loop-holds
+    sub-i
+    cast-out
+    slice-write-out
+    loop-less
+    loop-again
+    same-length
+    returns)
