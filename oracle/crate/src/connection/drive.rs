@@ -231,7 +231,12 @@ impl Conn {
     }
 }
 
-/// An event that names a stream. ClosedStream is ORDER.
+/// For ClosedStream, which the Rust says to the application in every case: what its check of a frame says of the id, else ORDER
+fn closed(s: &mut StreamsState, id: StreamId) -> String {
+    s.barred(id).map_or(ORDER.into(), name)
+}
+
+/// An event that names a stream.
 fn one(s: &mut StreamsState, pend: &mut Retransmits, op: &str, id: StreamId, t: &mut Toks) -> Ans<String> {
     Ok(match op {
         "data" => {
@@ -259,7 +264,7 @@ fn one(s: &mut StreamsState, pend: &mut Retransmits, op: &str, id: StreamId, t: 
             let before = pend.stop_sending.len();
             match (RecvStream { id, state: s, pending: pend }).stop(vi(9)?) {
                 Ok(()) => format!("{OK} {}", pend.stop_sending.len() - before),
-                Err(_) => ORDER.into(),
+                Err(_) => closed(s, id),
             }
         }
         // exactly n bytes, or none where the stream has fewer
@@ -267,7 +272,7 @@ fn one(s: &mut StreamsState, pend: &mut Retransmits, op: &str, id: StreamId, t: 
             let n = t.num_last()?;
             match s.unread(id) {
                 Some(has) if n <= has => (),
-                _ => return Ok(ORDER.into()),
+                _ => return Ok(closed(s, id)),
             }
             let mut got = 0;
             let mut r = RecvStream { id, state: s, pending: pend };
@@ -288,7 +293,7 @@ fn one(s: &mut StreamsState, pend: &mut Retransmits, op: &str, id: StreamId, t: 
             t.end()?;
             let mut r = RecvStream { id, state: s, pending: pend };
             let Ok(mut chunks) = r.read(true) else {
-                return Ok(ORDER.into());
+                return Ok(closed(s, id));
             };
             let n = match chunks.next(0) {
                 Ok(Some(_)) | Err(ReadError::Blocked) => 0,
@@ -301,7 +306,7 @@ fn one(s: &mut StreamsState, pend: &mut Retransmits, op: &str, id: StreamId, t: 
         "announce" => {
             t.end()?;
             if s.limit(id).is_none() {
-                return Ok(ORDER.into());
+                return Ok(closed(s, id));
             }
             let mut only = Retransmits::default();
             only.max_stream_data.insert(id);
@@ -321,7 +326,7 @@ fn one(s: &mut StreamsState, pend: &mut Retransmits, op: &str, id: StreamId, t: 
             let reset = SendStream { id, state: s, pending: pend, conn_state: &State }.reset(vi(5)?);
             pend.reset_stream.clear();
             s.reset_acked(id);
-            if reset.is_ok() { OK.into() } else { ORDER.into() }
+            if reset.is_ok() { OK.into() } else { closed(s, id) }
         }
         _ => return Err("unknown event".into()),
     })

@@ -59,6 +59,10 @@ impl StreamsState {
             p(&self.next_remote),
         )
     }
+    /// Why nothing can be received on a stream, where the Rust's own check of a frame says so
+    pub(crate) fn barred(&mut self, id: StreamId) -> Option<TransportError> {
+        self.validate_receive_id(id).err()
+    }
     pub(crate) fn side(&self) -> Side {
         self.side
     }
