@@ -1,5 +1,5 @@
 -- Each public promise asks nothing of its caller and fixes its outcome: each is an equation.
-use mathlib.Core.Path.{_≡_, refl, sym, _∙_}
+use mathlib.Core.Path.{refl, sym, _∙_}
 use Rattle.answers.proofs.Promise.{Whole}
 use Rattle.constant_time.proofs.eq as eq
 use Rattle.constant_time.proofs.eq16 as eq16

@@ -1,6 +1,6 @@
 -- Agreement and each way to fail it: the definition computes.
 use mathlib.Core.Path.{_≡_, refl}
-use mathlib.Core.List.{List, [], _∷_}
+use mathlib.Core.List.{[], _∷_}
 use mathlib.Core.Bool.{true, false}
 use Rattle.constant_time.specs.Agree.{agree}
 

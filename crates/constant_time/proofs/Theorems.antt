@@ -1,6 +1,6 @@
 -- `agree` is equality, by induction over both strings; and the count of turns is the length, so equal lengths take equally many.
 use Prim.Native.Nat.{ℕ}
-use mathlib.Core.Path.{_≡_, refl, ap, subst}
+use mathlib.Core.Path.{_≡_, refl, subst}
 use mathlib.Core.Bool.{true}
 use mathlib.Core.List.{List}
 use lib.ListN.{length}

@@ -1,10 +1,10 @@
 -- Laws of the bits of a word.
 -- Assumes nothing.
 use mathlib.Core.Path.{_≡_, refl, ap, sym, _∙_, subst}
-use mathlib.Core.Bool.{Bool, true, false, _||_}
+use mathlib.Core.Bool.{Bool, false, _||_}
 use Prim.Native.Nat.{ℕ, zero, suc, _+_, _-_, _*_, _/_, _%_, _^_, _≤_, _<_}
 use native.Mathlib.Omega.{arith}
-use native.Mathlib.Nat.{mod-lt, div-eq-of-lt, add-comm, mod-eq-of-lt, mul-assoc}
+use native.Mathlib.Nat.{mod-lt, div-eq-of-lt, add-comm, mul-assoc}
 use native.Mathlib.Numerals.{add-one}
 use lib.Dec.{eqb}
 use lib.Pow.{field, mod-mod-pow, shl-shr, shr-shr, pow-add, pow-pos, split, shr-lt}

@@ -1,6 +1,6 @@
 -- Two outcomes that both meet a public function's promise are the same, as each promise is an equation; and none asks anything of its caller.
 -- So `insert` leaves nothing open of the window that it hands back, its private words included.
-use mathlib.Core.Path.{_≡_, refl, sym, _∙_}
+use mathlib.Core.Path.{refl, sym, _∙_}
 use Rattle.answers.proofs.Promise.{Whole}
 use Rattle.dedup.proofs.Dedup.new as new
 use Rattle.dedup.proofs.Dedup.next as next

@@ -13,7 +13,7 @@ use Rattle.dedup.specs.declared.Dedup.{Dedup}
 use Rattle.dedup.specs.declared.Inserted.{Inserted}
 use Rattle.dedup.specs.Dedup.{seen, tooOld, told, inserted}
 use Rattle.dedup.specs.History.{noted, above, among, seenAfter}
-use Rattle.dedup.proofs.Laws.{insert-range, three}
+use Rattle.dedup.proofs.Laws.{insert-range}
 use Rattle.dedup.proofs.Sets.{AsSets, as-sets, fresh-unseen}
 use Rattle.dedup.proofs.Dedup.new as new
 use Rattle.dedup.proofs.Dedup.next as next

@@ -1,19 +1,18 @@
 -- What noting a number does to the words, and that it is what `inserted` says: bit by bit, each place holds the mark that its new number had.
 -- Assumes nothing.
-use mathlib.Core.Path.{_≡_, refl, ap, sym, _∙_, subst}
-use mathlib.Core.Bool.{Bool, true, false, _||_, _&&_, cond, or-true, or-false}
-use mathlib.Core.Logic.{⊎-elim}
-use Prim.Native.Nat.{ℕ, zero, suc, _+_, _-_, _*_, _/_, _%_, _^_, _≤_, _<_, max}
+use mathlib.Core.Path.{_≡_, refl, ap, sym, _∙_}
+use mathlib.Core.Bool.{Bool, true, false, _||_, or-true, or-false}
+use Prim.Native.Nat.{ℕ, zero, _+_, _-_, _*_, _/_, _%_, _^_, _≤_, _<_, max}
 use native.Mathlib.Omega.{arith}
 use native.Mathlib.Nat.{max-eq-left, max-eq-right, lt-of-lt-of-le, lt-of-le-of-lt, mod-lt}
 use native.Mathlib.Decide.{decLt}
 use lib.Dec.{eqb, ltb, leb, lit<, lit≤}
-use lib.Pow.{pow-mono, pow-pos, pow-lt, shr-lt, shr-le}
+use lib.Pow.{pow-mono, pow-lt, shr-le}
 use lib.Bits.{bitOr, or-lt}
 use borrow.Author.Tests.{lt-ltb, le-ltb, le-leb, lt-leb, eq-eqb, ne-eqb}
 use Rattle.dedup.specs.declared.Dedup.{Dedup}
 use Rattle.dedup.specs.declared.Inserted.{Inserted}
-use Rattle.dedup.specs.Bits.{bit, pack}
+use Rattle.dedup.specs.Bits.{bit}
 use Rattle.dedup.specs.Dedup.{place, recorded, withNumber, seen, holding, told, inserted}
 use Rattle.dedup.proofs.BitLaws.{bit-shr, bit-shl, bit-shl-below, bit-or, bit-small, bit-zero, pack-bits}
 

@@ -1,16 +1,14 @@
 -- The definition of `noted`, read as sets of numbers: after n is inserted, a number counts as seen exactly if it is too old for the
 -- window now, is n, or was seen before. A fresh window has seen nothing.
 -- Assumes nothing.
-use mathlib.Core.Path.{_≡_, refl, ap, sym, _∙_, subst}
-use mathlib.Core.Bool.{Bool, true, false, _||_, or-true, or-false, or-comm, or-self-left}
+use mathlib.Core.Path.{_≡_, refl, ap, sym, _∙_}
+use mathlib.Core.Bool.{Bool, true, false, _||_, or-true, or-comm, or-self-left}
 use mathlib.Core.Logic.{_⊎_, inl, inr, ⊎-elim}
-use Prim.Native.Nat.{ℕ, zero, suc, _+_, _-_, _*_, _/_, _%_, _^_, _≤_, _<_, max}
+use Prim.Native.Nat.{ℕ, zero, suc, _+_, _-_, _*_, _%_, _^_, _≤_, _<_, max}
 use native.Mathlib.Omega.{arith}
 use native.Mathlib.Nat.{max-eq-left, max-eq-right, pow-suc}
-use native.Mathlib.Numerals.{add-one}
-use native.Mathlib.Decide.{decLe, decLt}
-use lib.Dec.{eqb, ltb, leb}
-use lib.Pow.{pow-pos, high, low, pow-add}
+use lib.Dec.{eqb, leb}
+use lib.Pow.{high, low}
 use lib.Arith.{digits-lt}
 use borrow.Author.Tests.{lt-leb, le-leb, eq-eqb, ne-eqb}
 use Rattle.answers.specs.Answers.{OK}
@@ -19,7 +17,7 @@ use Rattle.dedup.specs.declared.Inserted.{Inserted}
 use Rattle.dedup.specs.Bits.{bit, pack, num}
 use Rattle.dedup.specs.Dedup.{place, recorded, withNumber, tooOld, seen, holding, inserted, fresh}
 use Rattle.dedup.proofs.BitLaws.{bit-mod}
-use Rattle.dedup.proofs.Laws.{three, same-test, place-low, place-high, recorded-below, recorded-above, recorded-top, above-unseen, top-seen, old-seen, inserted-new, inserted-seen}
+use Rattle.dedup.proofs.Laws.{three, same-test, place-low, place-high, recorded-below, above-unseen, top-seen, old-seen, inserted-new, inserted-seen}
 
 num-lt : (b : Bool) → num b < 2
 num-lt true = omega arith

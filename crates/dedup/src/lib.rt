@@ -1,7 +1,7 @@
 // Which packet numbers were received already, so that a packet is not processed twice (01, Duplicate window; spaces.rs, Dedup).
 // The window is the highest number and the 128 below it; what is older counts as seen.
 ghost use mathlib.Core.Path.{_≡_};
-ghost use Prim.Native.Nat.{ℕ, _<_, _≤_, _+_, _^_};
+ghost use Prim.Native.Nat.{_<_, _≤_, _+_, _^_};
 ghost use Rattle.dedup.specs.Dedup.{place, fresh, withNumber, holding, told, inserted};
 use answers::OK;
 use answers::RANGE;

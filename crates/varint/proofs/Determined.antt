@@ -1,5 +1,5 @@
 -- Each public promise asks nothing of its caller and fixes its outcome: each is an equation.
-use mathlib.Core.Path.{_≡_, refl, sym, ap, _∙_}
+use mathlib.Core.Path.{refl, sym, ap, _∙_}
 use Rattle.answers.proofs.Promise.{Whole}
 use Rattle.varint.proofs.read as read
 use Rattle.varint.proofs.read_at as read-at

@@ -1,7 +1,7 @@
 -- The worked examples of RFC 9000, section A.1, and of 01, and the edges of each length: the definitions compute.
-use Prim.Native.Nat.{ℕ, _-_, _^_}
+use Prim.Native.Nat.{_-_, _^_}
 use mathlib.Core.Path.{_≡_, refl}
-use mathlib.Core.List.{List, [], _∷_}
+use mathlib.Core.List.{[], _∷_}
 use Rattle.answers.specs.Answers.{SHORT, RANGE, ROOM}
 use Rattle.varint.specs.Varint.{width, logOf, readVarint, readAt, sizeOf, form, encode, done, writeVarint}
 use Rattle.varint.specs.declared.Got.the-variants as got

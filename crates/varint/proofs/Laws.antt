@@ -8,7 +8,7 @@ use native.Mathlib.Omega.{arith}
 use native.Mathlib.Nat.{pow-suc, pow-le-pow-right, le-refl}
 use lib.Seq.{drop-cons, getD-set-same, drop-set-lt, take-all}
 use lib.ListN.{getD, length, take, drop, set, length-set, length-drop}
-use lib.Dec.{lit<, ltb, leb}
+use lib.Dec.{lit<, ltb}
 use lib.Pow.{pow-mono, pow-pos}
 use borrow.Author.Tests.{lt-ltb, le-ltb, le-leb, lt-leb, ltb-true, ltb-false}
 use Rattle.answers.specs.Answers.{SHORT, RANGE, ROOM}

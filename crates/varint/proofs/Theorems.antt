@@ -11,7 +11,7 @@ use lib.ListN.{getD, length, take, drop, length-append}
 use lib.Seq.{getD-at, take-suc}
 use lib.Arith.{mod-mul}
 use lib.Pow.{pow-lt}
-use Rattle.varint.specs.Varint.{width, digits, logOf, readVarint, bytes, lenOf, marked, form, Fits, encode, writeVarint}
+use Rattle.varint.specs.Varint.{width, digits, logOf, readVarint, bytes, lenOf, form, Fits, encode, writeVarint}
 use Rattle.varint.specs.declared.Got.the-variants.{Value}
 use Rattle.varint.proofs.Laws.{order, width-1, width-2, width-4, width-8, digits-lt, reads-value, writes-len, size-fits, reads-short, log-0, log-1, log-2, log-3}
 

@@ -1,6 +1,6 @@
 -- The bits gathered are those of the bytes passed, one turn each.
 use Prim.Native.Nat.{ℕ, _≤_, _-_}
-use mathlib.Core.Path.{_≡_, refl, ap, sym, _∙_}
+use mathlib.Core.Path.{_≡_, ap, _∙_}
 use lib.ListN.{length, getD}
 use lib.Bits.{bitOr, bitXor}
 use native.Mathlib.Omega.{arith}

@@ -1,9 +1,9 @@
 -- What is left to write and what is written make up the whole: one byte a turn, the last first.
 use borrow.Author.Needs.{needs}
-use Prim.Native.Nat.{ℕ, suc, _≤_, _-_, _/_, _%_}
-use mathlib.Core.Path.{_≡_, ap, sym, _∙_, refl}
+use Prim.Native.Nat.{ℕ, _≤_, _-_}
+use mathlib.Core.Path.{_≡_, ap, sym, _∙_}
 use mathlib.Core.List.{_++_}
-use lib.ListN.{length, drop, set, length-set}
+use lib.ListN.{length, drop, length-set}
 use native.Mathlib.Omega.{arith}
 use Rattle.varint.specs.Varint.{bytes}
 use Rattle.varint.proofs.Laws.{bytes-step}

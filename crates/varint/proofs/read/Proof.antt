@@ -2,9 +2,9 @@
 use borrow.Author.Needs.{needs}
 use Prim.Native.Nat.{ℕ, _≤_, _-_, _+_, _*_, _<_}
 use mathlib.Core.Path.{_≡_, ap, sym, _∙_, refl}
-use lib.ListN.{length, getD}
+use lib.ListN.{getD}
 use native.Mathlib.Omega.{arith}
-use Rattle.varint.specs.Varint.{digits, readVarint, width}
+use Rattle.varint.specs.Varint.{digits, width}
 use Rattle.varint.proofs.Laws.{digits-step, digits-room, digits-fit, width-pos, width-le, reads-short, reads-value}
 use Rattle.varint.proofs.read.Statement.{statement}
 use Rattle.varint.proofs.read.Tie as tie

@@ -1,7 +1,6 @@
 -- The tests fix the logarithm, or that there is none.
 use mathlib.Core.Path.{sym}
 use Rattle.varint.proofs.Laws.{size-1, size-2, size-4, size-8, size-none}
-use borrow.Author.Needs.{needs}
 use Rattle.varint.proofs.size.Statement.{statement}
 use Rattle.varint.proofs.size.Tie as tie
 

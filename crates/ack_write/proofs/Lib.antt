@@ -1,0 +1,4 @@
+pub mod Laws
+pub mod Examples
+pub mod Theorems
+pub mod Determined

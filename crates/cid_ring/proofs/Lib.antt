@@ -1,0 +1,5 @@
+pub mod Places
+pub mod Found
+pub mod Kept
+pub mod Laws
+pub mod Determined

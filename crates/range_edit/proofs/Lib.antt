@@ -1,0 +1,5 @@
+pub mod Laws
+pub mod Insert
+pub mod Remove
+pub mod Within
+pub mod Changes

@@ -1,0 +1,7 @@
+pub mod Moves
+pub mod Laws
+pub mod Sound
+pub mod Canon
+pub mod Ascending
+pub mod Kept
+pub mod Determined

@@ -1,0 +1,5 @@
+pub mod Determined
+pub mod Entries
+pub mod Shape
+pub mod Strips
+pub mod Tables

@@ -1,0 +1,4 @@
+pub mod Determined
+pub mod Examples
+pub mod Fair
+pub mod Laws
