@@ -16,6 +16,7 @@ use Rattle.range_list.specs.Ranges.{Range, rangeAt, read, flat, over, sound, sp
 use Rattle.range_list.proofs.Sound.{by-lt, Sound, sound-parts, sound-made, sound-weaker, sound-drop, Formed}
 use Rattle.range_list.proofs.Laws.{read-at, length-read}
 use Rattle.range_edit.specs.Edits.{below, piece, remove, meets, cut, done, refuse, stay, settle, removeFrom}
+use Rattle.range_edit.specs.declared.Changed.{Changed}
 use Rattle.range_edit.specs.declared.Cut.{Cut}
 use Rattle.range_edit.proofs.Insert.{From, from-below, Passed}
 
@@ -212,13 +213,12 @@ module _ (l : List ℕ) (n s e : ℕ) where
       pub cuts-full : length l / 2 < lo + (n - c .upto) + length mid → refuse 5 l ≡ removeFrom l n s e
       cuts-full z = rw (x .is, m) (simp (lt-ltb lo (c .upto) h, size, lt-leb _ _ z))
 
-      pub cuts-put : (now : List ℕ) → lo + (n - c .upto) + length mid ≤ length l / 2 → now ≡ over (flat (splice (read l 0 n) lo (c .upto) mid)) l
-          → done (record { answer = 0; count = lo + (n - c .upto) + length mid; changed = true }) now ≡ removeFrom l n s e
-      cuts-put now z y = rw (x .is, m, y) (simp (lt-ltb lo (c .upto) h, size, le-leb _ _ z))
+      pub cuts-put : (r : Changed) → r ≡ record { answer = 0; count = lo + (n - c .upto) + length mid; changed = true } → (now : List ℕ) → lo + (n - c .upto) + length mid ≤ length l / 2 → now ≡ over (flat (splice (read l 0 n) lo (c .upto) mid)) l
+          → done r now ≡ removeFrom l n s e
+      cuts-put r f now z y = rw (f, x .is, m, y) (simp (lt-ltb lo (c .upto) h, size, le-leb _ _ z))
 
     pub cuts-all : lo < c .upto → n ≤ length l / 2 → piece (getD l (lo * 2) 0) s (piece e (c .last) []) ≡ []
-        → (now : List ℕ) → now ≡ over (flat (splice (read l 0 n) lo (c .upto) [])) l
-        → done (record { answer = 0; count = lo + (n - c .upto); changed = true }) now ≡ removeFrom l n s e
-    cuts-all h k m now y =
-        ap (λ (z : ℕ). done (record { answer = 0; count = z; changed = true }) now) (sym (add-zero (lo + (n - c .upto))))
-        ∙ cuts-put h [] m now (omega (arith, x .within)) y
+        → (r : Changed) → r ≡ record { answer = 0; count = lo + (n - c .upto); changed = true } → (now : List ℕ) → now ≡ over (flat (splice (read l 0 n) lo (c .upto) [])) l
+        → done r now ≡ removeFrom l n s e
+    cuts-all h k m r f now y =
+        cuts-put h [] m r (f ∙ ap (λ (z : ℕ). record { answer = 0; count = z; changed = true }) (sym (add-zero (lo + (n - c .upto))))) now (omega (arith, x .within)) y

@@ -164,6 +164,17 @@ pub fn cut_at(list: &[u64], from: usize, count: usize, e: u64) -> Cut
     Cut { upto: i, last: b }
 }
 
+// A change that leaves count ranges.
+fn settled(count: usize) -> Changed
+    ensures { λ r. ⌜ r ≡ record { answer = 0; count = count; changed = true } ⌝ }
+{
+    Changed {
+        answer: OK,
+        count: count,
+        changed: true,
+    }
+}
+
 // Takes the numbers s..e out of the set: a range that has numbers on both sides is split, and needs one place more.
 pub fn take_out(list: &mut [u64], count: usize, s: u64, e: u64) -> Changed
     requires { ⌜ (s < e) × (e ≤ 2 ^ 62) × (wellFormed (now list) count ≡ true) ⌝ }
@@ -192,33 +203,17 @@ pub fn take_out(list: &mut [u64], count: usize, s: u64, e: u64) -> Changed
                 };
             }
             splice_two(list, count, lo, hi, first, s, e, last);
-            return Changed {
-                answer: OK,
-                count: kept + 2,
-                changed: true,
-            };
+            return settled(kept + 2);
         }
         splice_one(list, count, lo, hi, first, s);
-        return Changed {
-            answer: OK,
-            count: kept + 1,
-            changed: true,
-        };
+        return settled(kept + 1);
     }
     if e < last {
         splice_one(list, count, lo, hi, e, last);
-        return Changed {
-            answer: OK,
-            count: kept + 1,
-            changed: true,
-        };
+        return settled(kept + 1);
     }
     splice_none(list, count, lo, hi);
-    Changed {
-        answer: OK,
-        count: kept,
-        changed: true,
-    }
+    settled(kept)
 }
 
 // Writes to out the parts in s..e of n ranges from number `from` on.

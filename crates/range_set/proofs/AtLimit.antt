@@ -19,6 +19,7 @@ use Rattle.range_edit.specs.Edits.{done, insert, below, insertInto}
 use Rattle.range_edit.specs.declared.Changed.{Changed}
 use Rattle.range_edit.specs.declared.Grown.{Grown}
 use Rattle.range_edit.proofs.Insert.{Reached}
+use Rattle.range_set.specs.declared.Capped.{Capped}
 use Rattle.range_set.specs.Set.{cap, refuseCap, plain, lowestOut, cappable, insertCapped}
 use Rattle.range_set.proofs.Laws.{first}
 
@@ -104,8 +105,9 @@ module _ (l : List ℕ) (n x limit : ℕ) where
     capped-is = simp (v .taken, lt-leb (length with-x) limit (ltb-true limit (length with-x) k)) (ap (λ (rs : List Range). lowestOut rs l) alone)
 
     -- the new range is the lowest: nothing is written
-    pub cap-lowest : at ≡ 0 → cap (record { answer = 0; count = n; changed = true; dropped = true; start = x; end = x + 1 }) l ≡ insertCapped l n x limit
-    cap-lowest e =
+    pub cap-lowest : at ≡ 0 → (r : Capped) → r ≡ record { answer = 0; count = n; changed = true; dropped = true; start = x; end = x + 1 } → cap r l ≡ insertCapped l n x limit
+    cap-lowest e r f =
+        ap (λ (z : Capped). cap z l) f ∙
         (λ i. cap (record { answer = 0; count = sym (length-read l 0 n) i; changed = true; dropped = true; start = x; end = x + 1 }) (sym (over-same l n (formed l n (v .formed) .room)) i))
         ∙ ap (λ (j : ℕ). lowestOut (splice (read l 0 n) j j (record { lo = x; hi = x + 1 } ∷ [])) l) (sym e) ∙ sym capped-is
 
@@ -120,15 +122,15 @@ module _ (l : List ℕ) (n x limit : ℕ) where
       size : length new ≡ n
       size = simp (length-append, length-drop, length-take-le (at - 1) rest (omega (arith, length-read l 1 (n - 1))), length-read) (omega arith)
 
-      pub cap-drop : (m₁ m₂ : List ℕ) → m₁ ≡ over (flat (splice (read l 0 n) 0 1 [])) l
+      pub cap-drop : (r : Capped) → r ≡ record { answer = 0; count = n; changed = true; dropped = true; start = getD l 0 0; end = getD l 1 0 } → (m₁ m₂ : List ℕ) → m₁ ≡ over (flat (splice (read l 0 n) 0 1 [])) l
           → m₂ ≡ over (flat (splice (read m₁ 0 (n - 1)) (at - 1) (at - 1) (record { lo = x; hi = x + 1 } ∷ []))) m₁
-          → cap (record { answer = 0; count = n; changed = true; dropped = true; start = getD l 0 0; end = getD l 1 0 }) m₂ ≡ insertCapped l n x limit
-      cap-drop m₁ m₂ a b =
+          → cap r m₂ ≡ insertCapped l n x limit
+      cap-drop r u m₁ m₂ a b =
           let f : m₁ ≡ over (flat rest) l = a ∙ ap (λ (rs : List Range). over (flat (splice rs 0 1 [])) l) (first l n (omega arith)) in
           let g : read m₁ 0 (n - 1) ≡ rest = (λ i. read (f i) 0 (sym (length-read l 1 (n - 1)) i)) ∙ read-over rest l in
           let q : m₂ ≡ over (flat new) l =
           b ∙ (λ i. over (flat (splice (g i) (at - 1) (at - 1) (record { lo = x; hi = x + 1 } ∷ []))) (f i))
           ∙ over-over (flat new) (flat rest) l (omega (arith, length-flat new, length-flat rest, size, length-read l 1 (n - 1))) in
           let s : suc (at - 1) ≡ at = omega arith in
-          (λ i. cap (record { answer = 0; count = sym size i; changed = true; dropped = true; start = getD l 0 0; end = getD l 1 0 }) (q i))
+          ap (λ (z : Capped). cap z m₂) u ∙ (λ i. cap (record { answer = 0; count = sym size i; changed = true; dropped = true; start = getD l 0 0; end = getD l 1 0 }) (q i))
           ∙ (λ i. lowestOut (splice (sym (first l n (omega arith)) i) (s i) (s i) (record { lo = x; hi = x + 1 } ∷ [])) l) ∙ sym capped-is

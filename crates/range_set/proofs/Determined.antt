@@ -6,6 +6,8 @@ use Rattle.range_set.proofs.insert_one as insert-one
 use Rattle.range_set.proofs.insert as insert
 use Rattle.range_set.proofs.remove as remove
 use Rattle.range_set.proofs.replace as replace
+use Rattle.range_set.proofs.add as add
+use Rattle.range_set.proofs.subtract as subtract
 use Rattle.range_set.proofs.min as min
 use Rattle.range_set.proofs.max as max
 use Rattle.range_set.proofs.len as len
@@ -41,3 +43,9 @@ pop-min-whole = (λ κs a. tt, λ κs a x y v w p q. let e = p ∙ sym q in (ap 
 
 pub insert-one-capped-whole : Whole insert-one-capped.Kinds.ps insert-one-capped.Kinds.r insert-one-capped.Reads.Pre insert-one-capped.Reads.Post
 insert-one-capped-whole = (λ κs a. tt, λ κs a x y v w p q. let e = p ∙ sym q in (ap (λ d. d .out) e, λ i. ((ap (λ d. d .mem) e) i, v .1)))
+
+pub add-whole : Whole add.Kinds.ps add.Kinds.r add.Reads.Pre add.Reads.Post
+add-whole = (λ κs a. tt, λ κs a x y v w p q. let e = p ∙ sym q in (ap (λ d. d .out) e, λ i. ((ap (λ d. d .mem) e) i, v .1)))
+
+pub subtract-whole : Whole subtract.Kinds.ps subtract.Kinds.r subtract.Reads.Pre subtract.Reads.Post
+subtract-whole = (λ κs a. tt, λ κs a x y v w p q. let e = p ∙ sym q in (ap (λ d. d .out) e, λ i. ((ap (λ d. d .mem) e) i, v .1)))

@@ -4,7 +4,8 @@ use mathlib.Core.Bool.{true, false}
 use mathlib.Core.List.{[], _∷_}
 use Rattle.range_list.specs.Ranges.{wellFormed}
 use Rattle.range_edit.specs.Edits.{done, both, refuse, refuseBoth, insertInto, removeFrom, replaceIn}
-use Rattle.range_set.specs.Set.{insertRange, removeRange, replaceRange, cap, insertCapped, onRange, valid, cappable}
+use Rattle.range_many.specs.Many.{mergeInto}
+use Rattle.range_set.specs.Set.{insertRange, removeRange, replaceRange, addSet, subtractSet, onSets, cap, insertCapped, onRange, valid, cappable}
 
 -- 3..5 with 5..9 is stored as 3..9
 pub touching-joined : insertRange (3 ∷ 5 ∷ 7 ∷ 7 ∷ []) 1 5 9 ≡ done (record { answer = 0; count = 1; changed = true }) (3 ∷ 9 ∷ 7 ∷ 7 ∷ [])
@@ -57,3 +58,17 @@ lowest-dropped = refl
 pub new-dropped : insertCapped (3 ∷ 5 ∷ 7 ∷ 9 ∷ []) 2 0 2 ≡ cap (record { answer = 0; count = 2; changed = true; dropped = true; start = 0; end = 1 }) (3 ∷ 5 ∷ 7 ∷ 9 ∷ [])
 unfolding insertCapped cappable insertInto
 new-dropped = refl
+
+-- capacity 2: a set on the way would need three places, the results fit
+pub added : addSet (10 ∷ 11 ∷ 12 ∷ 13 ∷ []) 2 (0 ∷ 1 ∷ 11 ∷ 12 ∷ []) 2 ≡ done (record { answer = 0; count = 2; changed = true }) (0 ∷ 1 ∷ 10 ∷ 13 ∷ [])
+unfolding onSets mergeInto
+added = refl
+
+pub subtracted : subtractSet (0 ∷ 10 ∷ 20 ∷ 21 ∷ []) 2 (3 ∷ 4 ∷ 20 ∷ 21 ∷ []) 2 ≡ done (record { answer = 0; count = 2; changed = true }) (0 ∷ 3 ∷ 4 ∷ 10 ∷ [])
+unfolding onSets mergeInto
+subtracted = refl
+
+-- where the result itself is too large, nothing has changed
+pub added-full : addSet (10 ∷ 11 ∷ []) 1 (0 ∷ 1 ∷ []) 1 ≡ refuse 5 (10 ∷ 11 ∷ [])
+unfolding onSets mergeInto
+added-full = refl

@@ -2,7 +2,7 @@
 -- keeps that, and a history is made of what the functions' own contracts allow. And it is the only list in good form with those numbers.
 -- Assumes nothing.
 use mathlib.Core.Path.{_≡_, refl, sym, subst}
-use mathlib.Core.Bool.{true, false, cond}
+use mathlib.Core.Bool.{Bool, true, false, cond, not}
 use mathlib.Core.Logic.{_⊎_, inl, inr, ⊎-elim}
 use mathlib.Core.List.{List, [], _∷_}
 use Prim.Native.Nat.{ℕ, _+_, _-_, _/_, _^_, _≤_, _<_}
@@ -22,7 +22,9 @@ use Rattle.range_edit.specs.declared.Changed.{Changed}
 use Rattle.range_edit.specs.declared.Replaced.{Replaced}
 use Rattle.range_edit.proofs.Insert.{insert-to, insert-from, insert-sound}
 use Rattle.range_edit.proofs.Remove.{remove-to, remove-from, remove-sound}
-use Rattle.range_set.specs.Set.{valid, onRange, insertRange, removeRange, replaceRange, Pop, pop, popFirst, popMin, Cap, lowestOut, cappable, insertCapped}
+use Rattle.range_many.specs.Many.{editAll, idleAll, mergeInto}
+use Rattle.range_list.proofs.Sound as sounds
+use Rattle.range_set.specs.Set.{valid, onRange, onSets, insertRange, removeRange, replaceRange, Pop, pop, popFirst, popMin, Cap, lowestOut, cappable, insertCapped}
 use Rattle.range_set.specs.declared.Popped.{Popped}
 use Rattle.range_set.specs.declared.Capped.{Capped}
 use Rattle.range_set.specs.History.{Event, put, cut, refused, Holds}
@@ -32,6 +34,8 @@ use Rattle.range_edit.proofs.Changes.{covers-in, clear}
 use Rattle.range_set.proofs.insert as insert-fn
 use Rattle.range_set.proofs.remove as remove-fn
 use Rattle.range_set.proofs.replace as replace-fn
+use Rattle.range_set.proofs.add as add-fn
+use Rattle.range_set.proofs.subtract as subtract-fn
 use Rattle.range_set.proofs.pop_min as pop-fn
 use Rattle.range_set.proofs.insert_one_capped as capped-fn
 
@@ -73,6 +77,37 @@ module _ (rs : List Range) (h : List Event) (w : Has rs h) (s e : ℕ) where
     where
       outside : (x : ℕ) → (x < s) ⊎ (e ≤ x)
       outside x = by-bool (ltb x s) (λ t. inl (ltb-true x s t)) (λ t. inr (omega (arith, ltb-false x s t)))
+
+-- a second set comes, or goes, range by range
+abbrev pub allEvents : Bool → List Range → List Event → List Event
+allEvents taking [] h = h
+allEvents true (q ∷ qs) h = allEvents true qs (cut (q .lo) (q .hi) ∷ h)
+allEvents false (q ∷ qs) h = allEvents false qs (put (q .lo) (q .hi) ∷ h)
+
+pub has-all : (taking : Bool) (least : ℕ) (qs rs : List Range) (h : List Event) → sound least qs ≡ true → Has rs h → Has (editAll taking rs qs) (allEvents taking qs h)
+has-all true least [] rs h s w = w
+has-all false least [] rs h s w = w
+has-all true least (q ∷ qs) rs h s w =
+    let p : Sound least q qs = sound-parts least q qs s in
+    has-all true (q .hi + 1) qs (remove (q .lo) (q .hi) rs) (cut (q .lo) (q .hi) ∷ h) (p .rest) (has-remove rs h w (q .lo) (q .hi) (p .some))
+has-all false least (q ∷ qs) rs h s w =
+    let p : Sound least q qs = sound-parts least q qs s in
+    has-all false (q .hi + 1) qs (insert (q .lo) (q .hi) rs) (put (q .lo) (q .hi) ∷ h) (p .rest) (has-insert rs h w (q .lo) (q .hi) (p .some) (p .upto))
+
+-- where none of it changes anything
+pub has-idle : (taking : Bool) (qs rs : List Range) (h : List Event) → idleAll taking rs qs ≡ true → Has rs h → Has rs (allEvents taking qs h)
+has-idle true [] rs h i w = w
+has-idle false [] rs h i w = w
+has-idle true (q ∷ qs) rs h i w =
+    let p = sounds.both (not (meets (q .lo) (q .hi) rs)) (idleAll true rs qs) i in
+    has-idle true qs rs (cut (q .lo) (q .hi) ∷ h) (p .1) (has-clear rs h w (q .lo) (q .hi) (unmet (meets (q .lo) (q .hi) rs) (p .0)))
+  where
+    unmet : (b : Bool) → not b ≡ true → b ≡ false
+    unmet true e = sym e
+    unmet false e = refl
+has-idle false (q ∷ qs) rs h i w =
+    let p = sounds.both (covers (q .lo) (q .hi) rs) (idleAll false rs qs) i in
+    has-idle false qs rs (put (q .lo) (q .hi) ∷ h) (p .1) (has-covered rs h w (q .lo) (q .hi) (p .0))
 
 -- the lowest range goes
 pub has-rest : (r : Range) (rs : List Range) (h : List Event) → Has (r ∷ rs) h → Has rs (cut (r .lo) (r .hi) ∷ h)
@@ -161,6 +196,22 @@ module _ (h : List Event) (l : List ℕ) (n : ℕ) (w : Kept h l n) where
             (λ u. rw (t, u) still))
             (λ t. rw t still)
 
+  -- a second set
+  abbrev AfterAll : Bool → List Range → Done → Type 0
+  AfterAll taking qs d = Kept (cond (leb (d .out .answer) 0) (allEvents taking qs h) (refused ∷ h)) (d .mem) (count-after (d .out .answer) (d .out .count) n)
+
+  pub step-merge : (taking : Bool) (o : List ℕ) (k : ℕ) → AfterAll taking (read o 0 k) (onSets l n o k (mergeInto taking l n (read o 0 k)))
+  unfolding onSets mergeInto
+  step-merge taking o k =
+      by-bool (wellFormed o k)
+      (λ t. rw (w .formed, t) (by-bool (idleAll taking (read l 0 n) (read o 0 k))
+      (λ u. rw u (record { formed = w .formed; has = has-idle taking (read o 0 k) (read l 0 n) h u (w .has) }))
+      (λ u. rw u (by-bool (leb (length (editAll taking (read l 0 n) (read o 0 k))) (length l / 2))
+      (λ f. rw f (kept-over (editAll taking (read l 0 n) (read o 0 k)) (allEvents taking (read o 0 k) h) l
+      (has-all taking 0 (read o 0 k) (read l 0 n) h (formed o k t .sound) (w .has)) (leb-true (length (editAll taking (read l 0 n) (read o 0 k))) (length l / 2) f)))
+      (λ f. rw f still)))))
+      (λ t. rw (w .formed, t) still)
+
   -- a pop takes out the range that it hands back
   pub step-pop : Kept (if-ok (popMin l n .out .answer) (cut (popMin l n .out .start) (popMin l n .out .end)) ∷ h) (popMin l n .mem) (count-after (popMin l n .out .answer) (popMin l n .out .count) n)
   unfolding popMin
@@ -212,6 +263,12 @@ pub data Run : List Event → List ℕ → ℕ → Type 0 where
   replaced : {h : List Event} {n : ℕ} (κs : Lfts 2) (x : RefT (List ℕ)) (s e : ℕ) (p : RefT (List ℕ)) (r : Replaced) (m q : List ℕ)
       → Run h (x .now) n → replace-fn.Reads.Post κs (x, (n, (s, (e, (p, tt))))) r (at-last x m, (n, (s, (e, (at-last p q, tt)))))
       → Run (if-ok (r .answer) (put s e) ∷ h) m (count-after (r .answer) (r .count) n)
+  added : {h : List Event} {n : ℕ} (κs : Lfts 2) (x o : RefT (List ℕ)) (k : ℕ) (r : Changed) (m : List ℕ)
+      → Run h (x .now) n → add-fn.Reads.Post κs (x, (n, (o, (k, tt)))) r (at-last x m, (n, (o, (k, tt))))
+      → Run (cond (leb (r .answer) 0) (allEvents false (read (o .now) 0 k) h) (refused ∷ h)) m (count-after (r .answer) (r .count) n)
+  subtracted : {h : List Event} {n : ℕ} (κs : Lfts 2) (x o : RefT (List ℕ)) (k : ℕ) (r : Changed) (m : List ℕ)
+      → Run h (x .now) n → subtract-fn.Reads.Post κs (x, (n, (o, (k, tt)))) r (at-last x m, (n, (o, (k, tt))))
+      → Run (cond (leb (r .answer) 0) (allEvents true (read (o .now) 0 k) h) (refused ∷ h)) m (count-after (r .answer) (r .count) n)
   popped : {h : List Event} {n : ℕ} (κs : Lfts 1) (x : RefT (List ℕ)) (r : Popped) (m : List ℕ)
       → Run h (x .now) n → pop-fn.Reads.Post κs (x, (n, tt)) r (at-last x m, (n, tt))
       → Run (if-ok (r .answer) (cut (r .start) (r .end)) ∷ h) m (count-after (r .answer) (r .count) n)
@@ -229,6 +286,8 @@ kept (start l) = none l
 kept (inserted {h} {n} κs x s e r m d p) = subst (After h (x .now) n (kept d) (put s e)) (sym p) (step-insert h (x .now) n (kept d) s e)
 kept (removed {h} {n} κs x s e r m d p) = subst (After h (x .now) n (kept d) (cut s e)) (sym p) (step-remove h (x .now) n (kept d) s e)
 kept (replaced {h} {n} κs x s e q r m o d p) = subst (AfterBoth h (x .now) n (kept d) s e) (sym p) (step-replace h (x .now) n (kept d) s e (q .now))
+kept (added {h} {n} κs x o k r m d p) = subst (AfterAll h (x .now) n (kept d) false (read (o .now) 0 k)) (sym p) (step-merge h (x .now) n (kept d) false (o .now) k)
+kept (subtracted {h} {n} κs x o k r m d p) = subst (AfterAll h (x .now) n (kept d) true (read (o .now) 0 k)) (sym p) (step-merge h (x .now) n (kept d) true (o .now) k)
 kept (popped {h} {n} κs x r m d p) =
     subst (λ (z : Pop). Kept (if-ok (z .out .answer) (cut (z .out .start) (z .out .end)) ∷ h) (z .mem) (count-after (z .out .answer) (z .out .count) n)) (sym p) (step-pop h (x .now) n (kept d))
 kept (capped {h} {n} κs x y limit r m d p) = subst (AfterCap h (x .now) n (kept d) y) (sym p) (step-capped h (x .now) n (kept d) y limit)

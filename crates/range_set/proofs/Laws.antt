@@ -16,7 +16,7 @@ use Rattle.range_edit.specs.Edits.{Done, stay, refuse, insert, covers, headCove
 use Rattle.range_list.proofs.Laws.{read-step, length-read}
 use Rattle.range_edit.proofs.Insert.{Passed, covers-head}
 use Rattle.range_set.specs.declared.Bound.{Bound}
-use Rattle.range_set.specs.Set.{valid, onRange, replaceRange, member, heldOf, least, greatest, boundOf, sizeOf, pop, refusePop, popFirst, popMin}
+use Rattle.range_set.specs.Set.{valid, onRange, onSets, replaceRange, member, heldOf, least, greatest, boundOf, sizeOf, pop, refusePop, popFirst, popMin}
 
 -- ---- what `usable` tests, and what it shows
 module _ (l : List ℕ) (n s e : ℕ) where
@@ -71,6 +71,20 @@ module _ (l : List ℕ) (n s e : ℕ) where
     pub replace-some : valid l n s e ≡ true → s < e → replaceIn l n s e m ≡ replaceRange l n s e m
     unfolding replaceRange
     replace-some v h = simp (v, lt-ltb _ _ h)
+
+-- ---- add and subtract
+module _ (l : List ℕ) (n : ℕ) (o : List ℕ) (k : ℕ) (d : Done) where
+  pub sets-bad : wellFormed l n ≡ false → refuse 2 l ≡ onSets l n o k d
+  unfolding onSets
+  sets-bad w = simp w
+
+  pub sets-other : wellFormed l n ≡ true → wellFormed o k ≡ false → refuse 2 l ≡ onSets l n o k d
+  unfolding onSets
+  sets-other w v = simp (w, v)
+
+  pub sets-good : wellFormed l n ≡ true → wellFormed o k ≡ true → d ≡ onSets l n o k d
+  unfolding onSets
+  sets-good w v = simp (w, v)
 
 -- insert one: a number past the limit
 pub one-far : (l : List ℕ) (n x : ℕ) (d : Done) → 2 ^ 62 ≤ x → refuse 2 l ≡ onRange l n x (x + 1) d

@@ -11,6 +11,7 @@ use lib.Dec.{ltb, leb}
 use Rattle.answers.specs.Answers.{OK, RANGE, ORDER}
 use Rattle.range_list.specs.Ranges.{Range, read, flat, over, wellFormed}
 use Rattle.range_edit.specs.Edits.{Done, stay, refuse, insert, insertInto, removeFrom, Both, both, refuseBoth, replaceIn}
+use Rattle.range_many.specs.Many.{mergeInto}
 use Rattle.range_set.specs.declared.Held.{Held}
 use Rattle.range_set.specs.declared.Bound.{Bound}
 use Rattle.range_set.specs.declared.Size.{Size}
@@ -39,6 +40,17 @@ replaceRange l n s e m =
     cond (valid l n s e)
     (cond (ltb s e) (replaceIn l n s e m) (both (record { answer = OK; count = n; parts = 0 }) l m))
     (refuseBoth RANGE l m)
+
+-- a call with the second set of k ranges of o, which does `some` where both lists are in good form
+unfoldable pub onSets : List ℕ → ℕ → List ℕ → ℕ → Done → Done
+onSets l n o k some = cond (wellFormed l n && wellFormed o k) some (refuse RANGE l)
+
+-- add, and subtract
+abbrev pub addSet : List ℕ → ℕ → List ℕ → ℕ → Done
+addSet l n o k = onSets l n o k (mergeInto false l n (read o 0 k))
+
+abbrev pub subtractSet : List ℕ → ℕ → List ℕ → ℕ → Done
+subtractSet l n o k = onSets l n o k (mergeInto true l n (read o 0 k))
 
 -- x is one of the numbers of rs
 abbrev pub member : ℕ → List Range → Bool

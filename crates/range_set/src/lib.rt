@@ -8,7 +8,7 @@ ghost use lib.ListN.{length};
 ghost use lib.Dec.{ltb};
 ghost use Rattle.range_list.specs.Ranges.{read, wellFormed};
 ghost use Rattle.range_edit.specs.Edits.{insert, done, both};
-ghost use Rattle.range_set.specs.Set.{valid, insertRange, removeRange, replaceRange, heldOf, least, greatest, boundOf, sizeOf, pop, popMin, cap, cappable, insertCapped};
+ghost use Rattle.range_set.specs.Set.{valid, insertRange, removeRange, replaceRange, addSet, subtractSet, heldOf, least, greatest, boundOf, sizeOf, pop, popMin, cap, cappable, insertCapped};
 use answers::OK;
 use answers::ORDER;
 use answers::RANGE;
@@ -24,6 +24,7 @@ use range_list::LIMIT;
 use range_list::splice_none;
 use range_list::splice_one;
 use range_list::well_formed;
+use range_many::merge;
 
 // Whether the set has a number.
 pub struct Held {
@@ -175,6 +176,48 @@ pub fn replace(list: &mut [u64], count: usize, start: u64, end: u64, parts: &mut
     put_reporting(list, count, start, end, parts)
 }
 
+// Puts the numbers of the second set, of n ranges, into the set, in place, and says whether any is new.
+pub fn add(list: &mut [u64], count: usize, other: &[u64], n: usize) -> Changed
+    ensures { λ r. ⌜ done r (now (list .exit)) ≡ addSet (now (list .entry)) count (now (other .entry)) n ⌝ }
+{
+    if !well_formed(list, count) {
+        return Changed {
+            answer: RANGE,
+            count: 0,
+            changed: false,
+        };
+    }
+    if !well_formed(other, n) {
+        return Changed {
+            answer: RANGE,
+            count: 0,
+            changed: false,
+        };
+    }
+    merge(list, count, other, n, false)
+}
+
+// Takes the numbers of the second set, of n ranges, out of the set, in place, and says whether any was there.
+pub fn subtract(list: &mut [u64], count: usize, other: &[u64], n: usize) -> Changed
+    ensures { λ r. ⌜ done r (now (list .exit)) ≡ subtractSet (now (list .entry)) count (now (other .entry)) n ⌝ }
+{
+    if !well_formed(list, count) {
+        return Changed {
+            answer: RANGE,
+            count: 0,
+            changed: false,
+        };
+    }
+    if !well_formed(other, n) {
+        return Changed {
+            answer: RANGE,
+            count: 0,
+            changed: false,
+        };
+    }
+    merge(list, count, other, n, true)
+}
+
 // The least number of the set.
 pub fn min(list: &[u64], count: usize) -> Bound
     ensures { λ r. ⌜ r ≡ boundOf (now (list .entry)) count (least (read (now (list .entry)) 0 count)) ⌝ }
@@ -296,6 +339,20 @@ fn crowded(list: &[u64], count: usize, x: u64, limit: usize) -> bool
     limit < at + 1 + (count - upto)
 }
 
+// A new number that made the range start..end drop, and leaves count ranges.
+fn dropping(count: usize, start: u64, end: u64) -> Capped
+    ensures { λ r. ⌜ r ≡ record { answer = 0; count = count; changed = true; dropped = true; start = start; end = end } ⌝ }
+{
+    Capped {
+        answer: OK,
+        count: count,
+        changed: true,
+        dropped: true,
+        start: start,
+        end: end,
+    }
+}
+
 // Puts x into the set; where that makes more than limit ranges the lowest is dropped, the new one too if it is that. No more than limit places are used.
 pub fn insert_one_capped(list: &mut [u64], count: usize, x: u64, limit: usize) -> Capped
     ensures { λ r. ⌜ cap r (now (list .exit)) ≡ insertCapped (now (list .entry)) count x limit ⌝ }
@@ -323,25 +380,11 @@ pub fn insert_one_capped(list: &mut [u64], count: usize, x: u64, limit: usize) -
     }
     let at = passed(list, count, x);
     if at == 0 {
-        return Capped {
-            answer: OK,
-            count: count,
-            changed: true,
-            dropped: true,
-            start: x,
-            end: x + 1,
-        };
+        return dropping(count, x, x + 1);
     }
     let start = list[0];
     let end = list[1];
     splice_none(list, count, 0, 1);
     splice_one(list, count - 1, at - 1, at - 1, x, x + 1);
-    Capped {
-        answer: OK,
-        count: count,
-        changed: true,
-        dropped: true,
-        start: start,
-        end: end,
-    }
+    dropping(count, start, end)
 }

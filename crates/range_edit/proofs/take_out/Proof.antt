@@ -80,63 +80,75 @@ returns-2 c =
 splice-two-requires : tie.Need-splice-two-requires
 splice-two-requires c κs = let k = known (c .before .before .before .before .before .before) in omega arith
 
-add-t21 : tie.Need-add-t21
-add-t21 c = search needs
+add-settled : tie.Need-add-settled
+add-settled c = search needs
+
+settled-requires : tie.Need-settled-requires
+settled-requires c κs = search needs
 
 same-length-3 : tie.Need-same-length-3
 same-length-3 c = search needs
 
 returns-3 : tie.Need-returns-3
 returns-3 c =
-    let g = c .before .before in
+    let g = c .before .before .before in
     let a = g .before .before in
     let k = a .before .before .before .before .before in
-    cuts-put _ _ _ _ _ _ (known k .cutting) (a .before .before .before .before .if1 .left) _ (pieces-two _ _ _ _ (a .before .before .if2 .taken) (a .before .if3 .taken)) _ (a .if4 .left) (g .splice-two .ensures)
+    cuts-put _ _ _ _ _ _ (known k .cutting) (a .before .before .before .before .if1 .left) _ (pieces-two _ _ _ _ (a .before .before .if2 .taken) (a .before .if3 .taken)) _ (c .settled .ensures) _ (a .if4 .left) (g .splice-two .ensures)
 
 splice-one-requires : tie.Need-splice-one-requires
 splice-one-requires c κs = let k = known (c .before .before .before .before .before) in omega arith
 
-add-t31 : tie.Need-add-t31
-add-t31 c = search needs
+add-settled-2 : tie.Need-add-settled-2
+add-settled-2 c = search needs
+
+settled-requires-2 : tie.Need-settled-requires-2
+settled-requires-2 c κs = search needs
 
 same-length-4 : tie.Need-same-length-4
 same-length-4 c = search needs
 
 returns-4 : tie.Need-returns-4
 returns-4 c =
-    let g = c .before .before in
+    let g = c .before .before .before in
     let a = g .before .before in
     let k = known (a .before .before .before .before) in
-    cuts-put _ _ _ _ _ _ (k .cutting) (a .before .before .before .if1 .left) _ (pieces-left _ _ _ _ (a .before .if2 .taken) (a .if3 .left)) _ (omega arith) (g .splice-one .ensures)
+    cuts-put _ _ _ _ _ _ (k .cutting) (a .before .before .before .if1 .left) _ (pieces-left _ _ _ _ (a .before .if2 .taken) (a .if3 .left)) _ (c .settled2 .ensures) _ (omega arith) (g .splice-one .ensures)
 
 splice-one-requires-2 : tie.Need-splice-one-requires-2
 splice-one-requires-2 c κs = let k = known (c .before .before .before .before .before) in omega arith
 
-add-t35 : tie.Need-add-t35
-add-t35 c = search needs
+add-settled-3 : tie.Need-add-settled-3
+add-settled-3 c = search needs
+
+settled-requires-3 : tie.Need-settled-requires-3
+settled-requires-3 c κs = search needs
 
 same-length-5 : tie.Need-same-length-5
 same-length-5 c = search needs
 
 returns-5 : tie.Need-returns-5
 returns-5 c =
-    let g = c .before .before in
+    let g = c .before .before .before in
     let a = g .before .before in
     let k = known (a .before .before .before .before) in
-    cuts-put _ _ _ _ _ _ (k .cutting) (a .before .before .before .if1 .left) _ (pieces-right _ _ _ _ (a .before .if2 .left) (a .if5 .taken)) _ (omega arith) (g .splice-one2 .ensures)
+    cuts-put _ _ _ _ _ _ (k .cutting) (a .before .before .before .if1 .left) _ (pieces-right _ _ _ _ (a .before .if2 .left) (a .if5 .taken)) _ (c .settled3 .ensures) _ (omega arith) (g .splice-one2 .ensures)
 
 splice-none-requires : tie.Need-splice-none-requires
 splice-none-requires c κs = let k = known (c .before .before .before .before .before) in omega arith
+
+settled-requires-4 : tie.Need-settled-requires-4
+settled-requires-4 c κs = search needs
 
 same-length-6 : tie.Need-same-length-6
 same-length-6 c = search needs
 
 returns-6 : tie.Need-returns-6
 returns-6 c =
-    let g = c .before .before in
+    let g = c .before .before .before in
     let a = g .before .before in
     let k = known (a .before .before .before .before) in
-    cuts-all _ _ _ _ _ _ (k .cutting) (a .before .before .before .if1 .left) (k .room) (pieces-none _ _ _ _ (a .before .if2 .left) (a .if5 .left)) _ (g .splice-none .ensures)
+    cuts-all _ _ _ _ _ _ (k .cutting) (a .before .before .before .if1 .left) (k .room) (pieces-none _ _ _ _ (a .before .if2 .left) (a .if5 .left)) _ (c .settled4 .ensures) _ (g .splice-none .ensures)
 
 pub take-out-spec : {M : Type 1} → statement M
 take-out-spec =
@@ -156,17 +168,21 @@ take-out-spec =
     same-length-2
     returns-2
     splice-two-requires
-    add-t21
+    add-settled
+    settled-requires
     same-length-3
     returns-3
     splice-one-requires
-    add-t31
+    add-settled-2
+    settled-requires-2
     same-length-4
     returns-4
     splice-one-requires-2
-    add-t35
+    add-settled-3
+    settled-requires-3
     same-length-5
     returns-5
     splice-none-requires
+    settled-requires-4
     same-length-6
     returns-6)

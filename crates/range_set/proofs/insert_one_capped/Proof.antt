@@ -58,16 +58,19 @@ returns-2 c =
 passed-requires : tie.Need-passed-requires
 passed-requires c κs = taken-at (to-else1 (c .before)) .formed
 
-add-t20 : tie.Need-add-t20
-add-t20 c = let v = taken-at (to-else1 (from-passed (c .before))) in omega arith
+add-dropping : tie.Need-add-dropping
+add-dropping c = let v = taken-at (to-else1 (from-passed (c .before))) in omega arith
+
+dropping-requires : tie.Need-dropping-requires
+dropping-requires c κs = search needs
 
 same-length-3 : tie.Need-same-length-3
 same-length-3 c = search needs
 
 returns-3 : tie.Need-returns-3
 returns-3 c =
-    let e = from-passed (c .before) in
-    cap-lowest _ _ _ _ (taken-at (to-else1 e)) (sym (e .before .crowded .ensures) ∙ not-false _ (e .if2 .left)) _ (c .before .passed .ensures) (c .if3 .taken)
+    let e = from-passed (c .before .before) in
+    cap-lowest _ _ _ _ (taken-at (to-else1 e)) (sym (e .before .crowded .ensures) ∙ not-false _ (e .if2 .left)) _ (c .before .before .passed .ensures) (c .before .if3 .taken) _ (c .dropping .ensures)
 
 slice-read-start : tie.Need-slice-read-start
 slice-read-start c = let p = passed-at (c .before .before) in let w = formed-at (to-else1 (from-passed (c .before .before))) in omega arith
@@ -99,16 +102,19 @@ splice-one-requires c κs =
     let k = s .splice-none .kept .0 in
     (omega arith, omega arith, omega arith, omega arith)
 
+dropping-requires-2 : tie.Need-dropping-requires-2
+dropping-requires-2 c κs = search needs
+
 same-length-4 : tie.Need-same-length-4
 same-length-4 c = search needs
 
 returns-4 : tie.Need-returns-4
 returns-4 c =
-    let o = c .before .before in
+    let o = c .before .before .before in
     let s = o .before .before .before .before in
     let q = s .before .before .before .before .before in
     let e = from-passed q in
-    cap-drop _ _ _ _ (taken-at (to-else1 e)) (sym (e .before .crowded .ensures) ∙ not-false _ (e .if2 .left)) _ (q .passed .ensures) (omega arith) (passed-at q .low) _ _ (s .splice-none .ensures) (o .splice-one .ensures)
+    cap-drop _ _ _ _ (taken-at (to-else1 e)) (sym (e .before .crowded .ensures) ∙ not-false _ (e .if2 .left)) _ (q .passed .ensures) (omega arith) (passed-at q .low) _ (c .dropping2 .ensures) _ _ (s .splice-none .ensures) (o .splice-one .ensures)
 
 pub insert-one-capped-spec : {M : Type 1} → statement M
 insert-one-capped-spec =
@@ -123,7 +129,8 @@ insert-one-capped-spec =
     same-length-2
     returns-2
     passed-requires
-    add-t20
+    add-dropping
+    dropping-requires
     same-length-3
     returns-3
     slice-read-start
@@ -134,5 +141,6 @@ insert-one-capped-spec =
     sub-splice-one-3
     add-splice-one
     splice-one-requires
+    dropping-requires-2
     same-length-4
     returns-4)
