@@ -1,8 +1,9 @@
 -- The worked examples of 01 for data, by computing the definitions: a version that always refuses fails on the 100 accepted bytes.
 use mathlib.Core.Path.{_≡_, refl}
-use mathlib.Core.Bool.{Bool, true, false}
+use mathlib.Core.Bool.{Bool, true, false, _||_}
 use mathlib.Core.List.{List, [], _∷_}
 use Prim.Native.Nat.{ℕ, _+_, _^_}
+use lib.Dec.{leb}
 use Rattle.stream_record.specs.Record.{kept, took}
 use Rattle.stream_conn.specs.declared.Counts.{Counts}
 use Rattle.stream_conn.specs.declared.Conn.{Conn}
@@ -11,7 +12,7 @@ use Rattle.stream_conn.specs.Books.{noCounts, admitted, goodCounts, goodConn, p
 use Rattle.stream_table.specs.Table.{theirs, goodNumbers, goodRec, records, findIn, soundB, entered}
 use Rattle.stream_table.specs.declared.Entry.{Entry}
 use Rattle.stream_table.specs.declared.Entry.the-variants.{No, Absent, Place}
-use Rattle.streams.specs.Calls.{booked, committed, onStream, byEntry, dataAfter}
+use Rattle.streams.specs.Calls.{refused, booked, committed, onStream, dataAfter}
 
 -- a server with two one-way streams of the client, at 600 and 300, granted 1,000
 abbrev pub server : Conn
@@ -42,6 +43,7 @@ pub again-free : dataAfter server table 2 2 500 100 false .done .charge ≡ 0
 unfolding dataAfter onStream entered soundB goodConn goodCounts goodRec goodNumbers admitted theirs records findIn committed took kept booked paid raised
 again-free = refl
 
--- data for a stream that is closed are OK, and change nothing
-pub closed-free : (c : Conn) (l : List ℕ) (n id offset len : ℕ) (fin : Bool) → entered c l n id ≡ Absent → byEntry c l id true 0 (λ s. took s (offset + len) fin 0) (entered c l n id) .done .charge ≡ 0
-closed-free c l n id offset len fin e = rw e
+-- data for a stream that is closed are OK, and charge and change nothing
+pub closed-free : (c : Conn) (l : List ℕ) (n id offset len : ℕ) (fin : Bool) → (leb (2 ^ 62) offset || leb (2 ^ 62) len) ≡ false → entered c l n id ≡ Absent → dataAfter c l n id offset len fin ≡ refused c l 0
+unfolding dataAfter onStream
+closed-free c l n id offset len fin h e = rw (h, e)

@@ -1,3 +1,4 @@
+-- The invariant: checking the records that are left, with the running numbers as they stand, is checking all. The counts stay at or below the number of records passed.
 use Rattle.stream_table.proofs.Tables.{check-start, turn-bad, turn-order, turn-over, turn-on, turn-end, good-id, one-most}
 use Rattle.stream_table.specs.Table.{goodFrom, recsFrom, records}
 use borrow.Author.Tests.{not-false}

@@ -1,3 +1,4 @@
+-- One law a return: whose stream, and which way.
 use Rattle.stream_table.proofs.Tables.{ones}
 use borrow.Author.Needs.{needs}
 use Rattle.stream_table.proofs.count_one.Statement.{statement}

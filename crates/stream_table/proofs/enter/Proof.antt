@@ -1,3 +1,4 @@
+-- One law a return; what is found is one of the table's places, so its record can be read.
 use Rattle.stream_table.proofs.Entries.{enters}
 use borrow.Author.Needs.{needs}
 use Rattle.stream_table.proofs.enter.Statement.{statement}

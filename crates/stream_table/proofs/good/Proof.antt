@@ -1,3 +1,4 @@
+-- The two tests are the definition's.
 use Rattle.stream_table.proofs.Tables.{good-is}
 use borrow.Author.Needs.{needs}
 use Rattle.stream_table.proofs.good.Statement.{statement}

@@ -1,3 +1,4 @@
+-- One law a return: one of the 256, and lent whole.
 use Rattle.stream_table.proofs.Shape.{hases}
 use borrow.Author.Needs.{needs}
 use Rattle.stream_table.proofs.has.Statement.{statement}

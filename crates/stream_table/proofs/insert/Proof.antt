@@ -1,3 +1,4 @@
+-- One law a return: there is a place for it or not.
 use Rattle.stream_table.proofs.Shape.{inserts}
 use borrow.Author.Needs.{needs}
 use Rattle.stream_table.proofs.insert.Statement.{statement}

@@ -1,3 +1,4 @@
+-- One law a return: which id is the lower.
 use Rattle.stream_table.proofs.Shape.{lowers}
 use borrow.Author.Needs.{needs}
 use Rattle.stream_table.proofs.lower.Statement.{statement}

@@ -1,3 +1,4 @@
+-- The tests are the definition's, in its order.
 use Rattle.stream_table.proofs.Tables.{numbers-is}
 use borrow.Author.Needs.{needs}
 use Rattle.stream_table.proofs.numbers.Statement.{statement}

@@ -1,3 +1,4 @@
+-- One law a return: there is such a place or not.
 use Rattle.stream_table.proofs.Shape.{puts}
 use borrow.Author.Needs.{needs}
 use Rattle.stream_table.proofs.put.Statement.{statement}

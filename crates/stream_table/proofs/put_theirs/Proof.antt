@@ -1,3 +1,4 @@
+-- One law a return: the record is ours or the peer's.
 use Rattle.stream_table.proofs.Strips.{put-not, put-one}
 use borrow.Author.Needs.{needs}
 use Rattle.stream_table.proofs.put_theirs.Statement.{statement}

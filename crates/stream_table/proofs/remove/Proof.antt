@@ -1,3 +1,4 @@
+-- One law a return, test by test of the definition.
 use Rattle.stream_table.proofs.Shape.{removes}
 use borrow.Author.Needs.{needs}
 use Rattle.stream_table.proofs.remove.Statement.{statement}

@@ -1,3 +1,4 @@
+-- The invariant: moving down those left, from here on, gives the words that moving down all gives.
 use Rattle.stream_table.proofs.Shape.{insert-start, insert-turn, insert-done, remove-start, remove-turn, remove-done, length-after}
 use Rattle.stream_table.specs.Table.{recsFrom, putRecs, insertId, inserted, removed}
 use borrow.Author.Needs.{needs}

@@ -1,3 +1,4 @@
+-- The invariant: putting the record in hand among those left, from here on, gives the words that putting the new one among all gives.
 use Rattle.stream_table.proofs.Shape.{insert-start, insert-turn, insert-done, remove-start, remove-turn, remove-done, length-after}
 use Rattle.stream_table.specs.Table.{recsFrom, putRecs, insertId, inserted, removed}
 use borrow.Author.Needs.{needs}

@@ -1,3 +1,4 @@
+-- One law a return, test by test of the definition.
 use Rattle.stream_table.proofs.Tables.{sounds}
 use borrow.Author.Needs.{needs}
 use Rattle.stream_table.proofs.sound.Statement.{statement}

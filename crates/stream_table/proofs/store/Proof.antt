@@ -1,3 +1,4 @@
+-- Seven writes, each within the words lent; their order is the definition's.
 use lib.ListN.{length-set}
 use native.Mathlib.Omega.{arith}
 use borrow.Author.Needs.{needs}

@@ -1,3 +1,4 @@
+-- One law a return; good form bounds the sum of ends.
 use Rattle.stream_table.proofs.Strips.{strips}
 use borrow.Author.Needs.{needs}
 use Rattle.stream_table.proofs.strip.Statement.{statement}

@@ -1,3 +1,4 @@
+-- The invariant: what stripping the records that are left comes to, from here, is what stripping all comes to. A record is written at or before its own place, so those left are as they were.
 use Rattle.stream_table.proofs.Strips.{strip-start, sum-start, strip-turn, strip-done, strip-place, strip-length, strip-end, strip-total}
 use Rattle.stream_table.specs.Table.{stripFrom, stripped, sumEnds, recsFrom, records}
 use borrow.Author.Needs.{needs}

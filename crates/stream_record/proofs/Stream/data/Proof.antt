@@ -1,3 +1,4 @@
+-- One law a return, in 01's order of checks for data.
 use Rattle.stream_record.proofs.Laws.{takes}
 use borrow.Author.Needs.{needs}
 use Rattle.stream_record.proofs.Stream.data.Statement.{statement}

@@ -1,3 +1,4 @@
+-- One law a return: stopped or not, with a FIN or not.
 use Rattle.stream_record.proofs.Laws.{keeps}
 use borrow.Author.Needs.{needs}
 use Rattle.stream_record.proofs.Stream.keep.Statement.{statement}

@@ -1,3 +1,4 @@
+-- One law a return; no more is read than is there, so the sum fits.
 use Rattle.stream_record.proofs.Laws.{reads}
 use borrow.Author.Needs.{needs}
 use Rattle.stream_record.proofs.Stream.read.Statement.{statement}

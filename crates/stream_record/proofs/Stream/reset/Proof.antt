@@ -1,3 +1,4 @@
+-- One law a return, in 01's order of checks for a reset.
 use Rattle.stream_record.proofs.Laws.{resets}
 use borrow.Author.Needs.{needs}
 use Rattle.stream_record.proofs.Stream.reset.Statement.{statement}

@@ -1,3 +1,4 @@
+-- One law a return: the sending half was open or not.
 use Rattle.stream_record.proofs.Laws.{sents}
 use borrow.Author.Needs.{needs}
 use Rattle.stream_record.proofs.Stream.sent.Statement.{statement}

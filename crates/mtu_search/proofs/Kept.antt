@@ -1,0 +1,193 @@
+-- Every step keeps a search well formed, and what it probes lies above the size known to pass and not above the upper bound.
+-- Each by the cases of its definition. Assumes nothing.
+use mathlib.Core.Path.{_≡_, refl, ap, sym, _∙_}
+use mathlib.Core.Bool.{Bool, true, false, cond, _&&_, _||_, not}
+use mathlib.Core.Logic.{_⊎_, inl, inr, ⊎-elim}
+use Prim.Native.Nat.{ℕ, _+_, _-_, _/_, _^_, _≤_, _<_, min, max}
+use native.Mathlib.Omega.{arith}
+use native.Mathlib.Decide.{decLt}
+use lib.Dec.{eqb, ltb, leb}
+use borrow.Author.Tests.{ltb-true, ltb-false, leb-true, leb-false, eqb-true, eqb-false, lt-ltb, le-ltb, le-leb, lt-leb, eq-eqb, ne-eqb}
+use Rattle.mtu_search.specs.declared.SearchState.{SearchState}
+use Rattle.mtu_search.specs.declared.Turn.{Turn}
+use Rattle.mtu_search.specs.declared.Turn.the-variants.{Waiting, Probing, Over}
+use Rattle.mtu_search.specs.Search.{begun, half, distance, chosen, sent, onward, turn, acked, missed, known, good}
+
+-- ---- tests and facts
+pub never : {X : Type 0} → false ≡ true → X
+never e = let z : _≡_ {A = ℕ} 0 1 = cc in let y : ⊥ = omega arith in absurd y
+
+pub fst : (a b : Bool) → (a && b) ≡ true → a ≡ true
+fst true b e = refl
+fst false b e = never e
+
+pub snd : (a b : Bool) → (a && b) ≡ true → b ≡ true
+snd true b e = e
+snd false b e = never e
+
+pub both : {a b : Bool} → a ≡ true → b ≡ true → (a && b) ≡ true
+both e f = rw (e, f)
+
+split' : (a b : ℕ) → Dec (a < b) → (a < b) ⊎ (b ≤ a)
+split' a b (yes h) = inl h
+split' a b (no h) = inr (omega arith)
+
+pub split : (a b : ℕ) → (a < b) ⊎ (b ≤ a)
+split a b = split' a b (decLt a b)
+
+-- ---- the size that is chosen
+-- what `chosen` may be: nothing; half way, above the lower bound; or the upper bound, far enough above the last size
+pub data Choice (lower upper last change : ℕ) : ℕ → Type 0 where
+  nothing : Choice lower upper last change 0
+  middle : change ≤ distance (half lower upper) last → lower < half lower upper → Choice lower upper last change (half lower upper)
+  bound : distance (half lower upper) last < change → change ≤ upper - last → Choice lower upper last change upper
+
+pub choice : (lower upper last change : ℕ) → Choice lower upper last change (chosen lower upper last change)
+unfolding chosen
+choice lower upper last change =
+    far (leb change (distance (half lower upper) last)) (ltb lower (half lower upper)) (leb change (upper - last)) refl refl refl
+  where
+    far : (a b c : Bool) → leb change (distance (half lower upper) last) ≡ a → ltb lower (half lower upper) ≡ b → leb change (upper - last) ≡ c
+        → Choice lower upper last change (cond a (cond b (half lower upper) 0) (cond c upper 0))
+    far true true c e f g = middle (leb-true _ _ e) (ltb-true _ _ f)
+    far true false c e f g = nothing
+    far false b true e f g = bound (leb-false _ _ e) (leb-true _ _ g)
+    far false b false e f g = nothing
+
+-- a probe is above what is known to pass, and at most the upper bound
+pub chosen-between : (lower upper last change z : ℕ) → Choice lower upper last change z → lower ≤ upper → lower ≤ last → 0 < change → (z ≡ 0 → ⊥) → (lower < z) × (z ≤ upper)
+chosen-between lower upper last change z nothing a b c d = absurd (d refl)
+chosen-between lower upper last change z (middle h l) a b c d = (l, omega arith)
+chosen-between lower upper last change z (bound h l) a b c d = (omega arith, omega arith)
+
+-- ---- a good search, as facts
+pub record Fine (s : SearchState) (current peer : ℕ) : Type 0 where
+  pub low : 1200 ≤ s .lower
+  pub above : s .lower < s .last
+  pub within : s .last ≤ s .upper
+  pub top : s .upper ≤ peer
+  pub tries : s .lost ≤ 3
+  pub fly : s .flying ≡ true → s .lost < 3
+  pub probe : s .probe < 2 ^ 62
+  pub is : current ≡ known s
+
+less-or : (a b : Bool) → (a || not b) ≡ true → b ≡ true → a ≡ true
+less-or true b e f = refl
+less-or false true e f = e
+less-or false false e f = never f
+
+pub good-fine : (s : SearchState) (current peer : ℕ) → good s current peer ≡ true → Fine s current peer
+unfolding good
+good-fine s current peer g =
+    let low = leb 1200 (s .lower) in
+    let above = ltb (s .lower) (s .last) in
+    let within = leb (s .last) (s .upper) in
+    let top = leb (s .upper) peer in
+    let tries = leb (s .lost) 3 in
+    let fly = ltb (s .lost) 3 || not (s .flying) in
+    let probe = ltb (s .probe) (2 ^ 62) in
+    let is = eqb current (known s) in
+    let x = fst (low && (above && (within && top))) ((tries && fly) && (probe && is)) g in
+    let y = snd (low && (above && (within && top))) ((tries && fly) && (probe && is)) g in
+    let t = fst (tries && fly) (probe && is) y in
+    let p = snd (tries && fly) (probe && is) y in
+    let w = snd above (within && top) (snd low (above && (within && top)) x) in
+    record {
+      low = leb-true _ _ (fst low (above && (within && top)) x);
+      above = ltb-true _ _ (fst above (within && top) (snd low (above && (within && top)) x));
+      within = leb-true _ _ (fst within top w);
+      top = leb-true _ _ (snd within top w);
+      tries = leb-true _ _ (fst tries fly t);
+      fly = λ f. ltb-true _ _ (less-or (ltb (s .lost) 3) (s .flying) (snd tries fly t) f);
+      probe = ltb-true _ _ (fst probe is p);
+      is = eqb-true _ _ (snd probe is p);
+    }
+
+or-less : (a b : Bool) → (b ≡ true → a ≡ true) → (a || not b) ≡ true
+or-less true b f = refl
+or-less false true f = f refl
+or-less false false f = refl
+
+pub fine-good : (s : SearchState) (current peer : ℕ) → Fine s current peer → good s current peer ≡ true
+unfolding good
+fine-good s current peer k =
+    both (both (le-leb _ _ (k .low)) (both (lt-ltb _ _ (k .above)) (both (le-leb _ _ (k .within)) (le-leb _ _ (k .top)))))
+    (both (both (le-leb _ _ (k .tries)) (or-less _ _ (λ f. lt-ltb _ _ (k .fly f)))) (both (lt-ltb _ _ (k .probe)) (eq-eqb _ _ (k .is))))
+
+-- ---- a turn
+-- a probe that goes out leaves a good search; otherwise there is nothing to say
+unfoldable pub TurnFine : Turn → ℕ → ℕ → Type 0
+TurnFine Waiting current peer = Unit
+TurnFine (Probing s) current peer = Fine s current peer
+TurnFine Over current peer = Unit
+
+sent-fine : (lower upper x n lost current peer : ℕ) → 1200 ≤ lower → lower < x → x ≤ upper → upper ≤ peer → lost < 3 → n < 2 ^ 62 → current ≡ lower → Fine (sent lower upper x n lost) current peer
+unfolding known
+sent-fine lower upper x n lost current peer a b c d e f g = record { low = a; above = b; within = c; top = d; tries = omega arith; fly = λ h. e; probe = f; is = g }
+
+pub onward-fine : (lower upper last change n current peer : ℕ) → 1200 ≤ lower → lower ≤ upper → lower ≤ last → upper ≤ peer → 0 < change → n < 2 ^ 62 → current ≡ lower
+    → TurnFine (onward lower upper last change n) current peer
+unfolding onward TurnFine
+onward-fine lower upper last change n current peer a b c d e f g = by (eqb (chosen lower upper last change) 0) refl
+  where
+    by : (t : Bool) → eqb (chosen lower upper last change) 0 ≡ t → TurnFine (cond t Over (Probing (sent lower upper (chosen lower upper last change) n 0))) current peer
+    by true h = tt
+    by false h =
+        let z = chosen-between lower upper last change _ (choice lower upper last change) b c e (eqb-false _ _ h) in
+        sent-fine lower upper _ n 0 current peer a (z .0) (z .1) d (omega arith) f g
+
+known-acked : (s : SearchState) → s .flying ≡ false → eqb (s .lost) 0 ≡ true → known s ≡ s .last
+unfolding known
+known-acked s e f = rw (e, f)
+
+known-lost : (s : SearchState) → s .flying ≡ false → eqb (s .lost) 0 ≡ false → known s ≡ s .lower
+unfolding known
+known-lost s e f = rw (e, f)
+
+known-flying : (s : SearchState) → s .flying ≡ true → known s ≡ s .lower
+unfolding known
+known-flying s e = rw e
+
+module _ (s : SearchState) (current peer : ℕ) (k : Fine s current peer) where
+  pub turn-fine : (change n : ℕ) → 0 < change → n < 2 ^ 62 → TurnFine (turn s change n) current peer
+  unfolding turn TurnFine
+  turn-fine change n hc hn = by (s .flying) (eqb (s .lost) 0) (ltb (s .lost) 3) refl refl refl
+    where
+      by : (a b c : Bool) → s .flying ≡ a → eqb (s .lost) 0 ≡ b → ltb (s .lost) 3 ≡ c
+          → TurnFine
+          (cond a Waiting
+          (cond b (onward (s .last) (s .upper) (s .last) change n)
+          (cond c (Probing (sent (s .lower) (s .upper) (s .last) n (s .lost))) (onward (s .lower) (s .last - 1) (s .last) change n))))
+          current peer
+      by true b c e f g = tt
+      by false true c e f g =
+          onward-fine (s .last) (s .upper) (s .last) change n current peer (omega (arith, k)) (k .within) (omega arith) (k .top) hc hn (k .is ∙ known-acked s e f)
+      by false false true e f g =
+          sent-fine (s .lower) (s .upper) (s .last) n (s .lost) current peer (k .low) (k .above) (k .within) (k .top) (ltb-true _ _ g) hn (k .is ∙ known-lost s e f)
+      by false false false e f g =
+          onward-fine (s .lower) (s .last - 1) (s .last) change n current peer (k .low) (omega (arith, k)) (omega (arith, k)) (omega (arith, k)) hc hn
+          (k .is ∙ known-lost s e f)
+
+  pub acked-fine : Fine (acked s) (s .last) peer
+  unfolding acked known
+  acked-fine = record { low = k .low; above = k .above; within = k .within; top = k .top; tries = omega arith; fly = λ h. never h; probe = omega arith; is = refl }
+
+  pub missed-fine : s .flying ≡ true → Fine (missed s) current peer
+  unfolding missed known
+  missed-fine e =
+      record {
+        low = k .low;
+        above = k .above;
+        within = k .within;
+        top = k .top;
+        tries = omega arith;
+        fly = λ h. never h;
+        probe = omega arith;
+        is = k .is ∙ known-flying s e ∙ sym (rw (ne-eqb (min (s .lost) 2 + 1) 0 (λ z. omega arith)));
+      }
+
+-- the first turn of a search
+pub first-fine : (current peer top change n : ℕ) → 1200 ≤ current → current ≤ peer → 0 < change → n < 2 ^ 62 → TurnFine (turn (begun current peer top) change n) current peer
+unfolding turn begun
+first-fine current peer top change n a b c d =
+    onward-fine (min current peer) (max (min current peer) (min top peer)) (min current peer) change n current peer (omega arith) (omega arith) (omega arith) (omega arith) c d (omega arith)

@@ -1,0 +1,4 @@
+pub mod Laws
+pub mod Kept
+pub mod Measure
+pub mod Determined

@@ -1,0 +1,9 @@
+pub mod Turns
+pub mod Kept
+pub mod Calls
+pub mod History
+pub mod Counts
+pub mod Searches
+pub mod Probes
+pub mod Examples
+pub mod RulesOut

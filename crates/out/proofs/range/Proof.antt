@@ -1,0 +1,27 @@
+-- `out::range` meets its contract. The text had room at once, or the promise says nothing. Assumes nothing.
+use Rattle.out.proofs.Laws.{went-in, went-out}
+use borrow.Author.Needs.{needs}
+use Rattle.out.proofs.range.Statement.{statement}
+use Rattle.out.proofs.range.Tie as tie
+
+range-requires : tie.Need-range-requires
+range-requires c κs = search needs
+
+returns : tie.Need-returns
+returns c = search (needs, went-in)
+
+flush-requires : tie.Need-flush-requires
+flush-requires c κs = search needs
+
+range-requires-2 : tie.Need-range-requires-2
+range-requires-2 c κs = search needs
+
+returns-2 : tie.Need-returns-2
+returns-2 c = search (needs, went-out)
+
+returns-3 : tie.Need-returns-3
+returns-3 c = search (needs, went-out)
+
+pub range-spec : {M : Type 1} → statement M
+range-spec =
+    tie.close (tie.spec range-requires returns flush-requires range-requires-2 returns-2 returns-3)

@@ -1,0 +1,156 @@
+// Replays a file of events, one to a line, and prints a line for each (docs/EVENTS.md): `replay FILE`, or `replay` for standard input.
+use ledger::State;
+use lines::Feed;
+
+// What is kept from line to line, but for the arrays.
+pub struct Kept {
+    pub feed: Feed,
+    pub at: usize,
+    pub state: State,
+}
+
+// The lent arrays' sizes are those of `ledger` and `lines`.
+
+// The answer of a line, or an error line; a line with no word has none.
+fn answer(
+    line: &[u8],
+    number: u64,
+    s: State,
+    numbers: &mut [u64; 32768],
+    bytes: &mut [u8; 65536],
+    scratch: &mut [u8; 65536],
+    memory: &mut [u64; 2432],
+    list: &mut [u64; 32768],
+    out: &mut [u8; 65536],
+    at: &mut usize,
+) -> State {
+    let words = text::without_note(line);
+    if text::is_end(words, 0) {
+        return s;
+    }
+    let e = events::parse(words, numbers, bytes);
+    if e.code == events::UNKNOWN {
+        say::error(out, at, number, b"no such event");
+        return s;
+    }
+    if e.code == events::UNFIT {
+        say::error(out, at, number, b"words that do not fit the event");
+        return s;
+    }
+    let after = ledger::apply(e, numbers, bytes, scratch, s, memory, list);
+    ledger::show(after, scratch, memory, list, out, at);
+    after
+}
+
+// One call for the next line, and what comes of it.
+fn turn(
+    fd: i32,
+    buf: &mut [u8; 65536],
+    mut r: Kept,
+    numbers: &mut [u64; 32768],
+    bytes: &mut [u8; 65536],
+    scratch: &mut [u8; 65536],
+    memory: &mut [u64; 2432],
+    list: &mut [u64; 32768],
+    out: &mut [u8; 65536],
+) -> Kept {
+    let feed = lines::next(fd, buf, r.feed);
+    r.feed = feed;
+    let mut at = r.at;
+    let kind = feed.kind;
+    match kind {
+        lines::LINE => {
+            let s = answer(
+                lines::line(buf, feed),
+                feed.number,
+                r.state,
+                numbers,
+                bytes,
+                scratch,
+                memory,
+                list,
+                out,
+                &mut at,
+            );
+            r.state = s;
+            r.at = at;
+            r
+        }
+        lines::LONG => {
+            say::error(
+                out,
+                &mut at,
+                feed.number,
+                b"a line of more than 65000 bytes",
+            );
+            r.at = at;
+            r
+        }
+        lines::FAILED => {
+            say::error(out, &mut at, feed.number, b"the file cannot be read on");
+            r.at = at;
+            r
+        }
+        _ => r,
+    }
+}
+
+// A proved loop has to end, and nothing says that a file does: the turns count down from a number that no run uses up.
+fn run(fd: i32) {
+    let mut buf = io::large_buffer();
+    let mut out = io::large_buffer();
+    let mut bytes = io::large_buffer();
+    let mut scratch = io::large_buffer();
+    let mut numbers = [0u64; 32768];
+    let mut memory = [0u64; 2432];
+    let mut list = [0u64; 32768];
+    let mut r = Kept {
+        feed: lines::begin(),
+        at: 0,
+        state: ledger::begin(),
+    };
+    let mut turns = u64::MAX;
+    while turns > 0 {
+        turns -= 1;
+        r = turn(
+            fd,
+            &mut buf,
+            r,
+            &mut numbers,
+            &mut bytes,
+            &mut scratch,
+            &mut memory,
+            &mut list,
+            &mut out,
+        );
+        let feed = r.feed;
+        if lines::END <= feed.kind {
+            let mut at = r.at;
+            out::flush(&mut out, &mut at);
+            if at == out::FAILED {
+                os::fail(b"standard output");
+            }
+            return;
+        }
+    }
+}
+
+fn main() {
+    if os::arg_count() < 2 {
+        run(libc::STDIN_FILENO);
+        return;
+    }
+    let mut path = io::buffer();
+    let length = os::arg(1, &mut path);
+    if os::errno() != 0 {
+        os::fail(b"path");
+        return;
+    }
+    let fd = os::open_read(&path[..length]);
+    if fd < 0 {
+        os::fail(&path[..length]);
+        return;
+    }
+    run(fd);
+    libc::close(fd);
+}

@@ -1,0 +1,178 @@
+// What the programs print of an answer: its number and name, values, ranges, byte strings, and the line for what is no event (docs/EVENTS.md).
+ghost use mathlib.Core.Path.{_≡_};
+ghost use Rattle.say.specs.Said.{saidPlain, saidNumber, saidTwo, saidThree, bitOf};
+
+// An answer with up to three numbers as values.
+pub struct Said {
+    pub answer: u8,
+    pub count: usize,
+    pub a: u64,
+    pub b: u64,
+    pub c: u64,
+}
+
+// An answer with no value.
+pub fn plain(answer: u8) -> Said
+    ensures { λ r. ⌜ r ≡ saidPlain answer ⌝ }
+{
+    Said {
+        answer,
+        count: 0,
+        a: 0,
+        b: 0,
+        c: 0,
+    }
+}
+
+// An answer with one value.
+pub fn number(answer: u8, a: u64) -> Said
+    ensures { λ r. ⌜ r ≡ saidNumber answer a ⌝ }
+{
+    Said {
+        answer,
+        count: 1,
+        a,
+        b: 0,
+        c: 0,
+    }
+}
+
+// An answer with two values.
+pub fn two(answer: u8, a: u64, b: u64) -> Said
+    ensures { λ r. ⌜ r ≡ saidTwo answer a b ⌝ }
+{
+    Said {
+        answer,
+        count: 2,
+        a,
+        b,
+        c: 0,
+    }
+}
+
+// An answer with three values.
+pub fn three(answer: u8, a: u64, b: u64, c: u64) -> Said
+    ensures { λ r. ⌜ r ≡ saidThree answer a b c ⌝ }
+{
+    Said {
+        answer,
+        count: 3,
+        a,
+        b,
+        c,
+    }
+}
+
+// 1 for yes, 0 for no.
+pub fn bit(is: bool) -> u64
+    ensures { λ r. ⌜ r ≡ bitOf is ⌝ }
+{
+    if is { 1 } else { 0 }
+}
+
+// An answer's number and name.
+pub fn answer(buf: &mut [u8; 65536], at: &mut usize, answer: u8) {
+    match answer {
+        answers::OK => out::text(buf, at, b"0 OK"),
+        answers::SHORT => out::text(buf, at, b"1 SHORT"),
+        answers::RANGE => out::text(buf, at, b"2 RANGE"),
+        answers::MALFORMED => out::text(buf, at, b"3 MALFORMED"),
+        answers::KIND => out::text(buf, at, b"4 KIND"),
+        answers::FULL => out::text(buf, at, b"5 FULL"),
+        answers::ORDER => out::text(buf, at, b"6 ORDER"),
+        answers::FLOW => out::text(buf, at, b"7 FLOW"),
+        answers::FINAL => out::text(buf, at, b"8 FINAL"),
+        answers::LIMIT => out::text(buf, at, b"9 LIMIT"),
+        answers::STATE => out::text(buf, at, b"10 STATE"),
+        answers::ROOM => out::text(buf, at, b"11 ROOM"),
+        answers::RETIRED => out::text(buf, at, b"12 RETIRED"),
+        _ => out::text(buf, at, b"??"),
+    }
+}
+
+// A space and a number.
+pub fn value(buf: &mut [u8; 65536], at: &mut usize, n: u64) {
+    out::text(buf, at, b" ");
+    out::number(buf, at, n);
+}
+
+// A name and a number.
+pub fn named(buf: &mut [u8; 65536], at: &mut usize, name: &[u8], n: u64) {
+    out::text(buf, at, name);
+    out::number(buf, at, n);
+}
+
+// A name and two numbers with a comma between.
+pub fn pair(buf: &mut [u8; 65536], at: &mut usize, name: &[u8], a: u64, b: u64) {
+    named(buf, at, name, a);
+    named(buf, at, b",", b);
+}
+
+// An answer and its values; a refusal has none.
+pub fn all(buf: &mut [u8; 65536], at: &mut usize, s: Said) {
+    answer(buf, at, s.answer);
+    if s.answer != answers::OK {
+        return;
+    }
+    if s.count == 0 {
+        return;
+    }
+    value(buf, at, s.a);
+    if s.count == 1 {
+        return;
+    }
+    value(buf, at, s.b);
+    if s.count == 2 {
+        return;
+    }
+    value(buf, at, s.c);
+}
+
+// A byte string in hex, `-` for none.
+pub fn bytes(buf: &mut [u8; 65536], at: &mut usize, s: &[u8]) {
+    if s.len() == 0 {
+        out::text(buf, at, b"-");
+        return;
+    }
+    out::hex(buf, at, s);
+}
+
+// One range after a space.
+pub fn range(buf: &mut [u8; 65536], at: &mut usize, a: u64, b: u64) {
+    out::text(buf, at, b" ");
+    out::range(buf, at, a, b);
+}
+
+// The ranges of a list, each after a space, or ` -`.
+pub fn ranges(buf: &mut [u8; 65536], at: &mut usize, list: &[u64], count: usize) {
+    if count == 0 {
+        out::text(buf, at, b" -");
+        return;
+    }
+    let mut i = 0;
+    while i < count {
+        if list.len() / 2 <= i {
+            return;
+        }
+        range(buf, at, list[2 * i], list[2 * i + 1]);
+        i += 1;
+    }
+}
+
+// What stands between the values and the state.
+pub fn bar(buf: &mut [u8; 65536], at: &mut usize) {
+    out::text(buf, at, b" |");
+}
+
+// The end of a line.
+pub fn end(buf: &mut [u8; 65536], at: &mut usize) {
+    out::text(buf, at, b"\n");
+}
+
+// The line for what is no event.
+pub fn error(buf: &mut [u8; 65536], at: &mut usize, number: u64, what: &[u8]) {
+    named(buf, at, b"?? line ", number);
+    out::text(buf, at, b": ");
+    out::text(buf, at, what);
+    end(buf, at);
+}
