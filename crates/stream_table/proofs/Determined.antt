@@ -1,6 +1,8 @@
 -- Each promise is one equation for the result and the lent words, so two outcomes that meet it are equal.
 use mathlib.Core.Path.{refl, sym, ap, _∙_}
 use Rattle.answers.proofs.Promise.{Whole}
+use Rattle.stream_table.proofs.count_one as count-one
+use Rattle.stream_table.proofs.good as good
 use Rattle.stream_table.proofs.sound as sound
 use Rattle.stream_table.proofs.enter as enter
 use Rattle.stream_table.proofs.has as has
@@ -8,6 +10,12 @@ use Rattle.stream_table.proofs.put as put
 use Rattle.stream_table.proofs.insert as insert
 use Rattle.stream_table.proofs.remove as remove
 use Rattle.stream_table.proofs.strip as strip
+
+pub count-one-whole : Whole count-one.Kinds.ps count-one.Kinds.r count-one.Reads.Pre count-one.Reads.Post
+count-one-whole = (λ κs a. tt, λ κs a x y v w p q. (p ∙ sym q, refl))
+
+pub good-whole : Whole good.Kinds.ps good.Kinds.r good.Reads.Pre good.Reads.Post
+good-whole = (λ κs a. tt, λ κs a x y v w p q. (p ∙ sym q, refl))
 
 pub sound-whole : Whole sound.Kinds.ps sound.Kinds.r sound.Reads.Pre sound.Reads.Post
 sound-whole = (λ κs a. tt, λ κs a x y v w p q. (p ∙ sym q, refl))

@@ -41,7 +41,7 @@ pub struct Stripped {
 }
 
 // 1 for a stream of the peer in the direction `d`, else 0.
-fn count_one(c: Conn, d: u64, id: u64) -> u64
+pub fn count_one(c: Conn, d: u64, id: u64) -> u64
     ensures { λ r. ⌜ r ≡ theirs c d id ⌝ }
 {
     if id % 2 == c.side {
@@ -70,7 +70,7 @@ fn numbers(s: Stream) -> bool
 }
 
 // A record that may stand in the table of this connection.
-fn good(c: Conn, s: Stream) -> bool
+pub fn good(c: Conn, s: Stream) -> bool
     ensures { λ r. ⌜ r ≡ goodRec c s ⌝ }
 {
     (c.admit(s.id) == 0) & numbers(s)
