@@ -11,38 +11,12 @@ use lib.Dec.{eqb, ltb, leb, lit<}
 use lib.ListN.{length, getD, set, replicate, length-set}
 use lib.Seq.{getD-set-same, getD-set-other}
 use borrow.Author.Tests.{ltb-true, ltb-false, leb-true, leb-false, eqb-true, lt-ltb, le-ltb, le-leb, lt-leb}
+use Rattle.answers.proofs.Tests.{fst, both, split}
 use Rattle.black_hole.specs.declared.Bursts.{Bursts}
 use Rattle.black_hole.specs.declared.CurrentLossBurst.{CurrentLossBurst}
 use Rattle.black_hole.specs.declared.BlackHoleDetector.{BlackHoleDetector}
 use Rattle.black_hole.specs.declared.Detected.{Detected}
 use Rattle.black_hole.specs.BlackHole.{none, pushed, passed, retained, lowerOf, leastOf, kept, closed, begun, suspicious, suspected, dropped, finished, fresh, probeAcked, delivered, follows, grown, lost, cleared, detected, goodPlace, goodBursts, good}
-
--- ---- tests and facts
-never : {X : Type 0} → false ≡ true → X
-never e = let z : _≡_ {A = ℕ} 0 1 = cc in let y : ⊥ = omega arith in absurd y
-
--- a conjunction's parts, and the whole of two
-pub fst : (a b : Bool) → (a && b) ≡ true → a ≡ true
-fst true b e = refl
-fst false b e = never e
-
-pub snd : (a b : Bool) → (a && b) ≡ true → b ≡ true
-snd true b e = e
-snd false b e = never e
-
-pub both : {a b : Bool} → a ≡ true → b ≡ true → (a && b) ≡ true
-both e f = rw (e, f)
-
-pub either : (a b : Bool) → (a || b) ≡ true → (a ≡ true) ⊎ (b ≡ true)
-either true b e = inl refl
-either false b e = inr e
-
-pub split' : (a b : ℕ) → Dec (a < b) → (a < b) ⊎ (b ≤ a)
-split' a b (yes h) = inl h
-split' a b (no h) = inr (omega arith)
-
-pub split : (a b : ℕ) → (a < b) ⊎ (b ≤ a)
-split a b = split' a b (decLt a b)
 
 -- ---- the bursts
 pub record Kept (b : Bursts) (least : ℕ) : Type 0 where

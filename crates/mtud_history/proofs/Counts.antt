@@ -14,7 +14,8 @@ use Rattle.mtu_search.specs.declared.Turn.{Turn}
 use Rattle.mtu_search.specs.declared.Turn.the-variants.{Waiting, Probing, Over}
 use Rattle.mtu_search.specs.Search.{begun, chosen, sent, onward, turn, acked, missed}
 use Rattle.mtu_search.specs.Measure.{one, triesLeft, sizesIn, probesIn}
-use Rattle.mtu_search.proofs.Kept.{Fine, split}
+use Rattle.answers.proofs.Tests.{split}
+use Rattle.mtu_search.proofs.Kept.{Fine}
 use Rattle.mtu_search.proofs.Measure.{Less}
 use Rattle.mtud_history.specs.Count.{times, sizes}
 

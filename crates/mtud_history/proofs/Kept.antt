@@ -15,7 +15,8 @@ use Rattle.mtu_search.specs.declared.SearchState.{SearchState}
 use Rattle.mtu_search.specs.declared.Turn.{Turn}
 use Rattle.mtu_search.specs.declared.Turn.the-variants.{Waiting, Probing, Over}
 use Rattle.mtu_search.specs.Search as search
-use Rattle.mtu_search.proofs.Kept.{fst, snd, both, Fine, fine-good, TurnFine, turn-fine, first-fine, acked-fine, missed-fine}
+use Rattle.answers.proofs.Tests.{fst, snd, both}
+use Rattle.mtu_search.proofs.Kept.{Fine, fine-good, TurnFine, turn-fine, first-fine, acked-fine, missed-fine}
 use Rattle.mtud_history.proofs.Turns.{TurnSends, turn-sends, first-sends, acked-upper, missed-upper}
 use Rattle.mtu_phase.specs.declared.Phase.{Phase}
 use Rattle.mtu_phase.specs.declared.Phase.the-variants.{Off, Initial, Searching, Complete}

@@ -10,7 +10,8 @@ use Rattle.mtu_search.specs.declared.SearchState.{SearchState}
 use Rattle.mtu_search.specs.declared.Turn.{Turn}
 use Rattle.mtu_search.specs.declared.Turn.the-variants.{Waiting, Probing, Over}
 use Rattle.mtu_search.specs.Search as search
-use Rattle.mtu_search.proofs.Kept.{snd, Fine, TurnFine, turn-fine, first-fine}
+use Rattle.answers.proofs.Tests.{snd}
+use Rattle.mtu_search.proofs.Kept.{Fine, TurnFine, turn-fine, first-fine}
 use Rattle.mtu_phase.specs.declared.Phase.{Phase}
 use Rattle.mtu_phase.specs.declared.Phase.the-variants.{Off, Initial, Searching, Complete}
 use Rattle.mtu_phase.specs.Phase.{goodConfig}

@@ -16,7 +16,8 @@ use Rattle.mtu_search.specs.declared.Turn.{Turn}
 use Rattle.mtu_search.specs.declared.Turn.the-variants.{Waiting, Probing, Over}
 use Rattle.mtu_search.specs.Search as search
 use Rattle.mtu_search.specs.Measure.{sizesIn, probesIn, triesLeft}
-use Rattle.mtu_search.proofs.Kept.{snd, Fine, TurnFine, turn-fine, first-fine, acked-fine, missed-fine}
+use Rattle.answers.proofs.Tests.{snd}
+use Rattle.mtu_search.proofs.Kept.{Fine, TurnFine, turn-fine, first-fine, acked-fine, missed-fine}
 use Rattle.mtu_search.proofs.Measure.{Less, TurnLess, turn-less, TurnFirst, first-turn, acked-sizes, missed-sizes}
 use Rattle.mtu_phase.specs.declared.Phase.{Phase}
 use Rattle.mtu_phase.specs.declared.Phase.the-variants.{Off, Initial, Searching, Complete}

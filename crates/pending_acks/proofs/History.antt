@@ -29,7 +29,7 @@ use Rattle.range_edit.proofs.Changes.{covers-in, New, uncovered, clear, Common,
 use Rattle.pending_acks.specs.Acks.{Left, refuse, dropLowest, keep, insertOne, Below, below, subtractBelow}
 use Rattle.pending_acks.specs.History.{Event, recorded, removed, dropped, Holds, Received, afterInsert, afterBelow, countOf}
 use Rattle.pending_acks.proofs.Sets.{remove-length, insert-cases, below-cases}
-use Rattle.pending_acks.proofs.Shortest.{shortest}
+use Rattle.range_list.proofs.Shortest.{shortest}
 use Rattle.pending_acks.proofs.insert_one as insert-one
 use Rattle.pending_acks.proofs.subtract_below as subtract-below
 
