@@ -160,8 +160,8 @@ fn record(id: u64, end: u64, read: u64, limit: u64, phase: u64, sending: u64) ->
     }
 }
 
-// The server's side, with two streams of the peer's each way: open, sized, reset and closed.
-fn begin() -> Both {
+// The server's side, with two streams of the peer's each way.
+fn connection() -> Conn {
     let k = Counts {
         next: 0,
         max: 0,
@@ -170,7 +170,7 @@ fn begin() -> Both {
         rwant: 2,
         rnext: 2,
     };
-    let c = Conn {
+    Conn {
         side: 1,
         bi: k,
         uni: k,
@@ -180,39 +180,37 @@ fn begin() -> Both {
         window: 1000,
         debt: 3,
         swindow: 100,
-    };
+    }
+}
+
+// The words of the four streams, seven a record: open, sized, reset and closed.
+fn words() -> [u64; 28] {
+    let mut w = [0u64; 28];
+    w[1] = 10;
+    w[2] = 4;
+    w[3] = 100;
+    w[4] = 1;
+    w[5] = 1;
+    w[7] = 2;
+    w[8] = 20;
+    w[9] = 11;
+    w[10] = 100;
+    w[11] = 2;
+    w[14] = 4;
+    w[15] = 5;
+    w[16] = 5;
+    w[17] = 100;
+    w[18] = 3;
+    w[21] = 6;
+    w
+}
+
+// Both forms of the same table.
+fn begin() -> Both {
+    let c = connection();
     Both {
         conn: c,
-        words: [
-            0,
-            10,
-            4,
-            100,
-            1,
-            1,
-            0,
-            2,
-            20,
-            11,
-            100,
-            2,
-            0,
-            0,
-            4,
-            5,
-            5,
-            100,
-            3,
-            0,
-            0,
-            6,
-            0,
-            0,
-            0,
-            0,
-            0,
-            0,
-        ],
+        words: words(),
         other: c,
         table: [
             record(0, 10, 4, 100, 1, 1),
