@@ -1,7 +1,11 @@
-// The events of the connection-id queue: cq (docs/EVENTS.md). `step` is the library's call, `show` prints its outcome and the queue.
+// The events of the connection-id queue: cq (docs/EVENTS.md). An event is its library's call.
+ghost use mathlib.Core.Path.{_≡_};
+ghost use Prim.Native.Nat.{_-_};
+ghost use Rattle.drive_cq.specs.Step.{partOf, over, idOf, tokenOf, giveOf, madeOf, begunOf, movedOf, refusedOf, shownOf, beginOf, newOf, frameOf, resetOf, callOf, stepOf};
 use cid_queue::CidQueue;
-use cid_queue::Entry;
-use say::Said;
+use cid_queue::Made;
+use cid_queue::Retirement;
+use said::Said;
 
 // There is no queue before the first `new`.
 pub struct Kept {
@@ -20,21 +24,19 @@ pub struct Gave {
     pub kept: Kept,
 }
 
-// No queue yet.
-fn none() -> Kept {
+// What a state holds before the first event: no queue yet.
+pub fn begin() -> Gave
+    ensures { λ r. ⌜ r ≡ beginOf ⌝ }
+{
     let id = [0u8; 20];
     let r = CidQueue::new(id, 0);
     let queue = r.queue;
-    Kept { has: false, queue }
+    give(said::plain(answers::OK), Kept { has: false, queue })
 }
 
-// What a state holds before the first event.
-pub fn begin() -> Gave {
-    let k = none();
-    give(say::plain(answers::OK), k)
-}
-
-fn give(said: Said, kept: Kept) -> Gave {
+fn give(said: Said, kept: Kept) -> Gave
+    ensures { λ r. ⌜ r ≡ giveOf said kept ⌝ }
+{
     Gave {
         said,
         retired: false,
@@ -46,74 +48,91 @@ fn give(said: Said, kept: Kept) -> Gave {
     }
 }
 
-// An id: the bytes from..to of the event, at most 20 of them, and how many there are.
-pub struct Word {
-    pub id: [u8; 20],
-    pub len: usize,
+// The bytes from..to, none where there are not so many.
+fn part(bytes: &[u8], from: usize, to: usize) -> &[u8]
+    ensures { λ r. ⌜ now r ≡ partOf (now (bytes .entry)) from to ⌝ }
+{
+    if bytes.len() < to {
+        return &bytes[0..0];
+    }
+    if to < from {
+        return &bytes[0..0];
+    }
+    &bytes[from..to]
 }
 
-fn cut(bytes: &[u8; 65536], from: usize, to: usize) -> Word {
-    let mut id = [0u8; 20];
+// Copies s to the start of `to`, as far as it fits.
+fn fill(s: &[u8], to: &mut [u8])
+    ensures { λ r. ⌜ now (to .exit) ≡ over (now (s .entry)) (now (to .entry)) ⌝ }
+{
     let mut i = 0;
-    while i < 20 {
-        if from < to {
-            if i < to - from {
-                if to <= 65536 {
-                    id[i] = bytes[from + i];
-                }
-            }
+    while i < s.len() {
+        if to.len() <= i {
+            return;
         }
+        to[i] = s[i];
         i += 1;
     }
-    Word {
-        id,
-        len: length(from, to),
-    }
 }
 
-fn length(from: usize, to: usize) -> usize {
-    if from < to { to - from } else { 0 }
+// An id: at most 20 bytes, then zeros.
+fn id_of(bytes: &[u8], from: usize, to: usize) -> [u8; 20]
+    ensures { λ r. ⌜ r ≡ idOf (now (bytes .entry)) from to ⌝ }
+{
+    let mut id = [0u8; 20];
+    fill(part(bytes, from, to), &mut id);
+    id
 }
 
 // A token: the bytes from..to, of which there have to be 16.
-fn token(bytes: &[u8; 65536], from: usize, to: usize) -> [u8; 16] {
-    let w = cut(bytes, from, to);
-    let id = w.id;
-    let mut t = [0u8; 16];
-    let mut i: usize = 0;
-    while i < 16 {
-        t[i] = id[i];
-        i += 1;
-    }
-    t
+fn token_of(bytes: &[u8], from: usize, to: usize) -> [u8; 16]
+    ensures { λ r. ⌜ r ≡ tokenOf (now (bytes .entry)) from to ⌝ }
+{
+    let mut token = [0u8; 16];
+    fill(part(bytes, from, to), &mut token);
+    token
 }
 
-fn fresh(bytes: &[u8; 65536], size: usize, k: Kept) -> Gave {
-    let w = cut(bytes, 0, size);
-    let id = w.id;
-    let r = CidQueue::new(id, w.len);
-    if r.answer != answers::OK {
-        return give(say::plain(r.answer), k);
-    }
-    let queue = r.queue;
-    give(say::plain(r.answer), Kept { has: true, queue })
+fn length(from: usize, to: usize) -> usize
+    ensures { λ r. ⌜ r ≡ to - from ⌝ }
+{
+    if from < to { to - from } else { 0 }
 }
 
-fn update(bytes: &[u8; 65536], size: usize, q: CidQueue) -> Gave {
-    let w = cut(bytes, 0, size);
-    let id = w.id;
-    let r = q.update_initial_cid(id, w.len);
-    let queue = r.queue;
-    give(say::plain(r.answer), Kept { has: true, queue })
+// An outcome with no value.
+fn made(d: Made) -> Gave
+    ensures { λ r. ⌜ r ≡ madeOf d ⌝ }
+{
+    let queue = d.queue;
+    give(said::plain(d.answer), Kept { has: true, queue })
+}
+
+// A new queue, or the old one where it is refused.
+fn begun(d: Made, k: Kept) -> Gave
+    ensures { λ r. ⌜ r ≡ begunOf d k ⌝ }
+{
+    if d.answer != answers::OK {
+        return give(said::plain(d.answer), k);
+    }
+    made(d)
+}
+
+fn fresh(bytes: &[u8], size: usize, k: Kept) -> Gave
+    ensures { λ r. ⌜ r ≡ newOf (now (bytes .entry)) size k ⌝ }
+{
+    let id = id_of(bytes, 0, size);
+    begun(CidQueue::new(id, size), k)
 }
 
 // Numbers that were retired are values, with the token of the new active id.
-fn moved(r: cid_queue::Retirement) -> Gave {
-    let queue = r.queue;
-    let token = r.token;
+fn moved(d: Retirement) -> Gave
+    ensures { λ r. ⌜ r ≡ movedOf d ⌝ }
+{
+    let queue = d.queue;
+    let token = d.token;
     Gave {
-        said: say::two(r.answer, r.start, r.end),
-        retired: r.start < r.end,
+        said: said::two(d.answer, d.start, d.end),
+        retired: d.start < d.end,
         named: false,
         id: [0u8; 20],
         len: 0,
@@ -122,33 +141,37 @@ fn moved(r: cid_queue::Retirement) -> Gave {
     }
 }
 
-fn frame(
-    numbers: &[u64; 32768],
-    bytes: &[u8; 65536],
-    first: usize,
-    size: usize,
-    q: CidQueue,
-) -> Gave {
-    if length(first, size) != 16 {
-        return give(
-            say::plain(answers::RANGE),
-            Kept {
-                has: true,
-                queue: q,
-            },
-        );
-    }
-    let w = cut(bytes, 0, first);
-    let id = w.id;
-    let t = token(bytes, first, size);
-    moved(q.insert(numbers[0], numbers[1], id, w.len, t))
+// A refusal for a token that has not 16 bytes.
+fn refused(q: CidQueue) -> Gave
+    ensures { λ r. ⌜ r ≡ refusedOf q ⌝ }
+{
+    give(
+        said::plain(answers::RANGE),
+        Kept {
+            has: true,
+            queue: q,
+        },
+    )
 }
 
-fn active(q: CidQueue) -> Gave {
+fn frame(a: u64, b: u64, bytes: &[u8], first: usize, size: usize, q: CidQueue) -> Gave
+    ensures { λ r. ⌜ r ≡ frameOf a b (now (bytes .entry)) first size q ⌝ }
+{
+    if length(first, size) != 16 {
+        return refused(q);
+    }
+    let id = id_of(bytes, 0, first);
+    let token = token_of(bytes, first, size);
+    moved(q.insert(a, b, id, first, token))
+}
+
+fn active(q: CidQueue) -> Gave
+    ensures { λ r. ⌜ r ≡ shownOf q ⌝ }
+{
     let e = q.active();
     let id = e.id;
     Gave {
-        said: say::number(e.answer, e.seq),
+        said: said::number(e.answer, e.seq),
         retired: false,
         named: true,
         id,
@@ -161,25 +184,34 @@ fn active(q: CidQueue) -> Gave {
     }
 }
 
-fn reset(bytes: &[u8; 65536], size: usize, q: CidQueue) -> Gave {
+fn reset(bytes: &[u8], size: usize, q: CidQueue) -> Gave
+    ensures { λ r. ⌜ r ≡ resetOf (now (bytes .entry)) size q ⌝ }
+{
     if size != 16 {
-        return give(
-            say::plain(answers::RANGE),
-            Kept {
-                has: true,
-                queue: q,
-            },
-        );
+        return refused(q);
     }
-    let t = token(bytes, 0, size);
-    let r = q.is_reset(t);
+    let token = token_of(bytes, 0, size);
+    let d = q.is_reset(token);
     give(
-        say::number(r.answer, say::bit(r.reset)),
+        said::number(d.answer, said::bit(d.reset)),
         Kept {
             has: true,
             queue: q,
         },
     )
+}
+
+// An event of the queue that there is.
+fn call(code: u8, a: u64, b: u64, bytes: &[u8], first: usize, size: usize, q: CidQueue) -> Gave
+    ensures { λ r. ⌜ r ≡ callOf code a b (now (bytes .entry)) first size q ⌝ }
+{
+    match code {
+        codes::CQ_FRAME => frame(a, b, bytes, first, size, q),
+        codes::CQ_NEXT => moved(q.next()),
+        codes::CQ_ACTIVE => active(q),
+        codes::CQ_RESET => reset(bytes, size, q),
+        _ => made(q.update_initial_cid(id_of(bytes, 0, size), size)),
+    }
 }
 
 // An event of the queue.
@@ -190,101 +222,17 @@ pub fn step(
     first: usize,
     size: usize,
     k: Kept,
-) -> Gave {
-    if code == events::CQ_NEW {
+) -> Gave
+    ensures { λ r. ⌜ r ≡ stepOf code (now (numbers .entry)) (now (bytes .entry)) first size k ⌝ }
+{
+    let a = numbers[0];
+    let b = numbers[1];
+    if code == codes::CQ_NEW {
         return fresh(bytes, size, k);
     }
     if !k.has {
-        return give(say::plain(answers::ORDER), k);
+        return give(said::plain(answers::ORDER), k);
     }
     let q = k.queue;
-    match code {
-        events::CQ_FRAME => frame(numbers, bytes, first, size, q),
-        events::CQ_NEXT => moved(q.next()),
-        events::CQ_ACTIVE => active(q),
-        events::CQ_RESET => reset(bytes, size, q),
-        _ => update(bytes, size, q),
-    }
-}
-
-// The first bytes of an id.
-fn show_id(id: &[u8; 20], len: usize, buf: &mut [u8; 65536], at: &mut usize) {
-    let s: &[u8] = id;
-    if len <= s.len() {
-        say::bytes(buf, at, &s[..len]);
-    }
-}
-
-// A token.
-fn show_token(token: &[u8; 16], buf: &mut [u8; 65536], at: &mut usize) {
-    out::hex(buf, at, token);
-}
-
-// The values: nothing, numbers and a token, a number and an id, or yes and no.
-fn show_values(g: Gave, buf: &mut [u8; 65536], at: &mut usize) {
-    let said = g.said;
-    say::answer(buf, at, said.answer);
-    if said.answer != answers::OK {
-        return;
-    }
-    if g.retired {
-        say::range(buf, at, said.a, said.b);
-        out::text(buf, at, b" ");
-        let token = g.token;
-        show_token(&token, buf, at);
-        return;
-    }
-    if g.named {
-        say::value(buf, at, said.a);
-        out::text(buf, at, b" ");
-        let id = g.id;
-        let len = g.len;
-        show_id(&id, len, buf, at);
-        return;
-    }
-    if said.count == 1 {
-        say::value(buf, at, said.a);
-    }
-}
-
-// SEQ:CID/TOKEN of an id held.
-fn show_entry(e: Entry, buf: &mut [u8; 65536], at: &mut usize) {
-    if e.answer != answers::OK {
-        return;
-    }
-    say::value(buf, at, e.seq);
-    out::text(buf, at, b":");
-    let id = e.id;
-    let len = e.len;
-    show_id(&id, len, buf, at);
-    out::text(buf, at, b"/");
-    if e.known {
-        let token = e.token;
-        show_token(&token, buf, at);
-        return;
-    }
-    out::text(buf, at, b"-");
-}
-
-fn show_queue(q: CidQueue, buf: &mut [u8; 65536], at: &mut usize) {
-    let n = q.active_seq();
-    say::value(buf, at, n.seq);
-    show_entry(q.entry(0), buf, at);
-    show_entry(q.entry(1), buf, at);
-    show_entry(q.entry(2), buf, at);
-    show_entry(q.entry(3), buf, at);
-    show_entry(q.entry(4), buf, at);
-}
-
-// The line of an event.
-pub fn show(g: Gave, buf: &mut [u8; 65536], at: &mut usize) {
-    show_values(g, buf, at);
-    say::bar(buf, at);
-    let k = g.kept;
-    if k.has {
-        let q = k.queue;
-        show_queue(q, buf, at);
-        return;
-    }
-    out::text(buf, at, b" -");
+    call(code, a, b, bytes, first, size, q)
 }

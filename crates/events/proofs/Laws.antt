@@ -16,112 +16,12 @@ use Rattle.text.specs.declared.Bytes.{Bytes}
 use Rattle.text.specs.Words.{wordAt, spelt, isEnd, same}
 use Rattle.text.specs.Numbers.{numberAt}
 use Rattle.text.specs.Bytes.{bytesAt, done as doneB}
-use Rattle.events.specs.declared.Cursor.{Cursor}
+use Rattle.words.specs.declared.Cursor.{Cursor}
 use Rattle.events.specs.declared.Event.{Event}
 use Rattle.events.specs.declared.Found.{Found}
-use Rattle.events.specs.Words.{failed, pushed, pushedTwo, numberTaken, optionTaken, nameTaken, bytesTaken, pairsFrom, paired, pairsTaken, onNumbers, onBytes, oneTaken, wordsFrom, wordsTaken, Done, done, Both, both}
-use Rattle.events.specs.Events.{noEvent, finished, findFrom, findIn, part, worded, eventIn, moduleAt, ofModule, eventOf}
-
--- ---- a number more
-
-module _ (c : Cursor) (next v : ℕ) (l : List ℕ) where
-  pub push-full : {d : Cursor} → length l ≤ c .count → d ≡ failed c → done d l ≡ pushed c next v l
-  unfolding pushed
-  push-full h e = rw (le-leb (length l) (c .count) h, e)
-
-  pub push-on : c .count < length l
-      → done (record { ok = c .ok; at = next; count = c .count + 1; first = c .first; size = c .size }) (set l (c .count) v) ≡ pushed c next v l
-  unfolding pushed
-  push-on h = rw (lt-leb (length l) (c .count) h)
-
-pub push-both : (c : Cursor) (next a b : ℕ) (l : List ℕ) {d e : Cursor} {m n : List ℕ}
-    → done d m ≡ pushed c next a l → done e n ≡ pushed d next b m → done e n ≡ pushedTwo c next a b l
-unfolding pushedTwo
-push-both c next a b l p q = rw (← p) q
-
--- ---- a word of each kind
-
-module _ (s : List ℕ) (c : Cursor) (l : List ℕ) where
-  module _ {n : Number} (e : n ≡ numberAt s (c .at)) where
-    pub number-in : {r : Done} → n .ok ≡ true → r ≡ pushed c (n .next) (n .value) l → r ≡ numberTaken s c l
-    unfolding numberTaken
-    number-in f g = rw (← e, f) g
-
-    pub number-not : {d : Cursor} → n .ok ≡ false → d ≡ failed c → done d l ≡ numberTaken s c l
-    unfolding numberTaken
-    number-not f g = rw (← e, f, g)
-
-  module _ {w : Word} (k : w ≡ wordAt s (c .at)) {t : Bool} where
-    pub option-none : {r : Done} → t ≡ same (spelt s w) (45 ∷ []) → t ≡ true → r ≡ pushedTwo c (w .end) 0 0 l → r ≡ optionTaken s c l
-    unfolding optionTaken
-    option-none q f g = rw (← k, ← q, f) g
-
-    module _ {n : Number} (q : t ≡ same (spelt s w) (45 ∷ [])) (f : t ≡ false) (e : n ≡ numberAt s (c .at)) where
-      pub option-some : {r : Done} → n .ok ≡ true → r ≡ pushedTwo c (n .next) 1 (n .value) l → r ≡ optionTaken s c l
-      unfolding optionTaken
-      option-some h g = rw (← k, ← q, f, ← e, h) g
-
-      pub option-not : {d : Cursor} → n .ok ≡ false → d ≡ failed c → done d l ≡ optionTaken s c l
-      unfolding optionTaken
-      option-not h g = rw (← k, ← q, f, ← e, h, g)
-
-    module _ (x y : List ℕ) (q : t ≡ same (spelt s w) x) where
-      pub name-zero : {r : Done} → t ≡ true → r ≡ pushed c (w .end) 0 l → r ≡ nameTaken s c x y l
-      unfolding nameTaken
-      name-zero f g = rw (← k, ← q, f) g
-
-      pub name-one : {u : Bool} {r : Done} → t ≡ false → u ≡ same (spelt s w) y → u ≡ true → r ≡ pushed c (w .end) 1 l → r ≡ nameTaken s c x y l
-      unfolding nameTaken
-      name-one f p h g = rw (← k, ← q, f, ← p, h) g
-
-      pub name-not : {u : Bool} {d : Cursor} → t ≡ false → u ≡ same (spelt s w) y → u ≡ false → d ≡ failed c → done d l ≡ nameTaken s c x y l
-      unfolding nameTaken
-      name-not f p h g = rw (← k, ← q, f, ← p, h, g)
-
-  module _ (second : Bool) {b : Bytes} {m : List ℕ} (e : doneB b m ≡ bytesAt s (c .at) l (c .size)) where
-    pub bytes-second : b .ok ≡ true → second ≡ true
-        → done (record { ok = c .ok; at = b .next; count = c .count; first = c .first; size = b .end }) m ≡ bytesTaken s c second l
-    unfolding bytesTaken
-    bytes-second f g = rw (← e, f, g)
-
-    pub bytes-first : b .ok ≡ true → second ≡ false
-        → done (record { ok = c .ok; at = b .next; count = c .count; first = b .end; size = b .end }) m ≡ bytesTaken s c second l
-    unfolding bytesTaken
-    bytes-first f g = rw (← e, f, g)
-
-    pub bytes-not : {d : Cursor} → b .ok ≡ false → d ≡ failed c → done d m ≡ bytesTaken s c second l
-    unfolding bytesTaken
-    bytes-not f g = rw (← e, f, g)
-
--- ---- pairs of numbers
-
-pub pairs-end : (k : ℕ) (s : List ℕ) (c : Cursor) (l : List ℕ) {t : Bool} → t ≡ isEnd s (c .at) → t ≡ true → pairsFrom k s c l ≡ done c l
-unfolding pairsFrom
-pairs-end zero s c l e f = refl
-pairs-end (suc k) s c l e f = rw (← e, f)
-
-pub pairs-on : (k : ℕ) (s : List ℕ) (c : Cursor) (l : List ℕ) {t : Bool} {d : Cursor} {m : List ℕ}
-    → 0 < k → t ≡ isEnd s (c .at) → t ≡ false → done d m ≡ numberTaken s c l → pairsFrom (k - 1) s d m ≡ pairsFrom k s c l
-unfolding pairsFrom
-pairs-on zero s c l h e f g = absurd (omega arith)
-pairs-on (suc k) s c l h e f g = let q : suc k - 1 ≡ k = omega arith in rw (q, ← e, f, ← g)
-
-pub pairs-done : (k : ℕ) (s : List ℕ) (c : Cursor) (l : List ℕ) → k ≡ 0 → pairsFrom k s c l ≡ done c l
-unfolding pairsFrom
-pairs-done k s c l e = rw e
-
-module _ (s : List ℕ) (c : Cursor) (l : List ℕ) {d : Cursor} {m : List ℕ} (e : done d m ≡ pairsFrom (length s) s c l) where
-  pub pairs-less : {f : Cursor} → d .count < c .count → f ≡ failed d → done f m ≡ pairsTaken s c l
-  unfolding pairsTaken
-  pairs-less h g = rw (← e, lt-ltb (d .count) (c .count) h, g)
-
-  pub pairs-odd : {f : Cursor} → c .count ≤ d .count → ((d .count - c .count) % 2 ≡ 0 → ⊥) → f ≡ failed d → done f m ≡ pairsTaken s c l
-  unfolding pairsTaken
-  pairs-odd h k g = rw (← e, le-ltb (d .count) (c .count) h, ne-eqb _ _ k, g)
-
-  pub pairs-even : c .count ≤ d .count → (d .count - c .count) % 2 ≡ 0 → done d m ≡ pairsTaken s c l
-  unfolding pairsTaken
-  pairs-even h k = rw (← e, le-ltb (d .count) (c .count) h, eq-eqb _ _ k)
+use Rattle.words.specs.Words.{wordsTaken, Both, both}
+use Rattle.events.specs.Modules.{ctGrammar, viGrammar, pnGrammar, ddGrammar, rsGrammar, paGrammar, afGrammar, cqGrammar, mtGrammar, stGrammar, baseOf, among, grammarOf}
+use Rattle.events.specs.Events.{noEvent, finished, findFrom, findIn, part, worded, eventIn, moduleAt, eventOf}
 
 -- ---- the end of an event's words
 
@@ -169,52 +69,33 @@ module _ (s name : List ℕ) (at base : ℕ) (g l b : List ℕ) {f : Found} (e :
   unfolding eventIn
   event-known h p q = rw (← e, ne-eqb (f .index) 16 h, ← p, q)
 
--- ---- a word of a kind, and of all kinds of a shape
-
-module _ (s : List ℕ) (kind : ℕ) (c : Cursor) (l b : List ℕ) where
-  -- a kind that is k does what the definition says of k
-  pub one-is : {r : Both Cursor} (k : ℕ) → kind ≡ k → r ≡ oneTaken s k c l b → r ≡ oneTaken s kind c l b
-  one-is k e f = rw e f
-
-  pub one-none : (kind ≡ 110 → ⊥) → (kind ≡ 111 → ⊥) → (kind ≡ 100 → ⊥) → (kind ≡ 115 → ⊥) → (kind ≡ 104 → ⊥) → (kind ≡ 103 → ⊥) → (kind ≡ 42 → ⊥)
-      → both c l b ≡ oneTaken s kind c l b
-  unfolding oneTaken
-  one-none n o d p h g q =
-      rw (ne-eqb kind 110 n, ne-eqb kind 111 o, ne-eqb kind 100 d, ne-eqb kind 115 p, ne-eqb kind 104 h, ne-eqb kind 103 g, ne-eqb kind 42 q)
-
-pub on-numbers : (b : List ℕ) {d : Cursor} {m : List ℕ} {r : Done} → done d m ≡ r → both d m b ≡ onNumbers r b
-on-numbers b e = rw (← e)
-
-pub on-bytes : (l : List ℕ) {d : Cursor} {m : List ℕ} {r : Done} → done d m ≡ r → both d l m ≡ onBytes r l
-on-bytes l e = rw (← e)
-
-pub words-on : (s shape : List ℕ) (i : ℕ) (c : Cursor) (l b : List ℕ) {d : Cursor} {m n : List ℕ}
-    → i < length shape → both d m n ≡ oneTaken s (getD shape i 0) c l b → wordsFrom s (drop (i + 1) shape) (both d m n) ≡ wordsFrom s (drop i shape) (both c l b)
-unfolding wordsFrom
-words-on s shape i c l b h e = rw (add-one, drop-cons shape i 0 h, e)
-
-pub words-end : (s shape : List ℕ) (i : ℕ) (d : Both Cursor) → length shape ≤ i → d ≡ wordsFrom s (drop i shape) d
-unfolding wordsFrom
-words-end s shape i d h = rw (drop-of-length-le shape {i = i} h)
-
 -- ---- the module of a line
 
-module _ (s l b : List ℕ) {w : Word} {m : ℕ} (e : w ≡ wordAt s 0) (f : m ≡ moduleAt s (w .start) (w .end)) where
-  pub no-module : {r : Event} → m ≡ 0 → r ≡ noEvent 0 → both r l b ≡ eventOf s l b
-  unfolding eventOf
-  no-module h g = rw (← e, ← f, eq-eqb m 0 h, g)
+pub base-is : {m : ℕ} (k : ℕ) {r : ℕ} → m ≡ k → r ≡ baseOf k → r ≡ baseOf m
+base-is k e f = rw e f
 
-  pub in-module : {r : Both Event} → (m ≡ 0 → ⊥) → r ≡ ofModule m s (part s (w .start + 3) (w .end)) (w .end) l b → r ≡ eventOf s l b
-  unfolding eventOf
-  in-module h g = rw (← e, ← f, ne-eqb m 0 h) g
-
-pub module-is : (m k : ℕ) (s name : List ℕ) (at : ℕ) (l b : List ℕ) {r : Both Event} → m ≡ k → r ≡ ofModule k s name at l b → r ≡ ofModule m s name at l b
-module-is m k s name at l b e f = rw e f
+pub among-is : {m : ℕ} (k : ℕ) (ct vi pn dd rs pa af cq mt st : List ℕ) {r : List ℕ} → m ≡ k → r ≡ among k ct vi pn dd rs pa af cq mt st → r ≡ among m ct vi pn dd rs pa af cq mt st
+among-is k ct vi pn dd rs pa af cq mt st e f = rw e f
 
 -- a module that there is not
-pub no-grammar : (m : ℕ) (s name : List ℕ) (at : ℕ) (l b : List ℕ) {r : Event}
-    → (m ≡ 6517806 → ⊥) → (m ≡ 7760174 → ⊥) → (m ≡ 7368238 → ⊥) → (m ≡ 6579246 → ⊥) → (m ≡ 7500590 → ⊥) → (m ≡ 7364910 → ⊥) → (m ≡ 6383150 → ⊥) → (m ≡ 6517038 → ⊥) → (m ≡ 7173166 → ⊥) → (m ≡ 7566382 → ⊥)
-    → r ≡ noEvent 0 → both r l b ≡ ofModule m s name at l b
-unfolding ofModule
-no-grammar m s name at l b h0 h1 h2 h3 h4 h5 h6 h7 h8 h9 g =
-    rw (ne-eqb m 6517806 h0, ne-eqb m 7760174 h1, ne-eqb m 7368238 h2, ne-eqb m 6579246 h3, ne-eqb m 7500590 h4, ne-eqb m 7364910 h5, ne-eqb m 6383150 h6, ne-eqb m 6517038 h7, ne-eqb m 7173166 h8, ne-eqb m 7566382 h9, g)
+module _ (m : ℕ) (h0 : m ≡ 6517806 → ⊥) (h1 : m ≡ 7760174 → ⊥) (h2 : m ≡ 7368238 → ⊥) (h3 : m ≡ 6579246 → ⊥) (h4 : m ≡ 7500590 → ⊥)
+    (h5 : m ≡ 7364910 → ⊥) (h6 : m ≡ 6383150 → ⊥) (h7 : m ≡ 6517038 → ⊥) (h8 : m ≡ 7173166 → ⊥) (h9 : m ≡ 7566382 → ⊥) where
+  pub no-base : 0 ≡ baseOf m
+  unfolding baseOf
+  no-base =
+      rw (ne-eqb m 6517806 h0, ne-eqb m 7760174 h1, ne-eqb m 7368238 h2, ne-eqb m 6579246 h3, ne-eqb m 7500590 h4, ne-eqb m 7364910 h5, ne-eqb m 6383150 h6, ne-eqb m 6517038 h7, ne-eqb m 7173166 h8, ne-eqb m 7566382 h9)
+
+  pub no-grammar : (ct vi pn dd rs pa af cq mt st : List ℕ) → [] ≡ among m ct vi pn dd rs pa af cq mt st
+  unfolding among
+  no-grammar ct vi pn dd rs pa af cq mt st =
+      rw (ne-eqb m 6517806 h0, ne-eqb m 7760174 h1, ne-eqb m 7368238 h2, ne-eqb m 6579246 h3, ne-eqb m 7500590 h4, ne-eqb m 7364910 h5, ne-eqb m 6383150 h6, ne-eqb m 6517038 h7, ne-eqb m 7173166 h8, ne-eqb m 7566382 h9)
+
+module _ (s l b : List ℕ) {w : Word} {m k : ℕ} (e : w ≡ wordAt s 0) (f : m ≡ moduleAt s (w .start) (w .end)) (g : k ≡ baseOf m) where
+  pub no-module : {r : Event} → k ≡ 0 → r ≡ noEvent 0 → both r l b ≡ eventOf s l b
+  unfolding eventOf
+  no-module h q = rw (← e, ← f, ← g, eq-eqb k 0 h, q)
+
+  pub in-module : {r : Both Event} {t : List ℕ} → (k ≡ 0 → ⊥) → t ≡ among m ctGrammar viGrammar pnGrammar ddGrammar rsGrammar paGrammar afGrammar cqGrammar mtGrammar stGrammar
+      → r ≡ eventIn s (part s (w .start + 3) (w .end)) (w .end) k t l b → r ≡ eventOf s l b
+  unfolding eventOf grammarOf
+  in-module h p q = rw (← e, ← f, ← g, ne-eqb k 0 h, ← p) q

@@ -1,20 +1,22 @@
-// The state of one connection, and what an event does to it: `apply` is one step, `show` prints its line (docs/EVENTS.md). What is small is one
-// record by value, in which each module's part is what its last event gave; lists and tables lie in lent arrays.
-ghost use Rattle.ledger.specs.Ledger.{Untouched};
+// The state of one connection, and what an event does to it: `step` is its module's step on its part of the state, and what is no event leaves all as
+// it was (docs/EVENTS.md). What is small is one record by value, in which each module's part is what its last event gave; lists and tables lie in lent
+// arrays.
+ghost use mathlib.Core.Path.{_≡_};
+ghost use Prim.Native.Nat.{_≤_};
+ghost use lib.ListN.{length};
+ghost use Rattle.drive_sets.specs.Sets as sets;
+ghost use Rattle.drive_st.specs.Step as st;
+ghost use Rattle.ledger.specs.Ledger.{begun, acksOf, booksOf, listed, listsOf, peered, peersOf, leafed, leafOf, stepped, stepOf};
 use drive_leaf::Gave as Leaf;
+use drive_rs::Ranges;
 use drive_sets::Did;
 use drive_sets::Noted;
 use events::Event;
 
-// Places of the range set and of its reported parts at the start, and the most that `rs.cap` sets.
-const PLACES: usize = 256;
+// Where the parts of the lent memory start, and where they end: the range set from 0 on, the recorder's list, the table of streams.
+pub const ACKS: usize = 512;
 
-// Where the parts of the lent memory start, and where they end.
-const SET: usize = 0;
-
-const ACKS: usize = 512;
-
-const TABLE: usize = 640;
+pub const TABLE: usize = 640;
 
 pub const MEMORY: usize = 2432;
 
@@ -23,9 +25,7 @@ pub struct State {
     pub code: u8,
     pub leaf: Leaf,
     pub window: Noted,
-    pub set: Did,
-    pub places: usize,
-    pub parts: usize,
+    pub ranges: Ranges,
     pub acks: Did,
     pub cids: drive_cq::Gave,
     pub mtud: drive_mt::Gave,
@@ -33,10 +33,12 @@ pub struct State {
 }
 
 // Nothing happened yet.
-pub fn begin() -> State {
+pub fn begin() -> State
+    ensures { λ r. ⌜ r ≡ begun ⌝ }
+{
     let leaf = drive_leaf::begin();
     let window = drive_sets::begin();
-    let set = drive_sets::empty();
+    let ranges = drive_rs::begin();
     let acks = drive_sets::empty();
     let cids = drive_cq::begin();
     let mtud = drive_mt::begin();
@@ -45,9 +47,7 @@ pub fn begin() -> State {
         code: 0,
         leaf,
         window,
-        set,
-        places: PLACES,
-        parts: PLACES,
+        ranges,
         acks,
         cids,
         mtud,
@@ -55,91 +55,110 @@ pub fn begin() -> State {
     }
 }
 
-// rs.cap: other places from now on, and the set empty. More than the memory has is RANGE.
-fn cap(numbers: &[u64; 32768], mut s: State) -> State {
-    if 256 < numbers[0] {
-        let d = drive_sets::refused(s.set);
-        s.set = d;
-        return s;
-    }
-    if 256 < numbers[1] {
-        let d = drive_sets::refused(s.set);
-        s.set = d;
-        return s;
-    }
-    s.places = numbers[0] as usize;
-    s.parts = numbers[1] as usize;
-    let d = drive_sets::empty();
-    s.set = d;
-    s
+// The recorder of acknowledgements, in its part of the memory.
+fn acks(code: u8, n: u64, count: usize, memory: &mut [u64]) -> Did
+    requires { ⌜ 2432 ≤ length (now memory) ⌝ }
+    ensures { λ r. ⌜ sets.done r (now (memory .exit)) ≡ acksOf code n count (now (memory .entry)) ⌝ }
+{
+    let from = ACKS;
+    let to = TABLE;
+    drive_sets::record(code, n, &mut memory[from..to], count)
 }
 
-// The range set, in the part of the memory that it has now.
-fn set(
+// The books of the streams, in theirs.
+fn books(code: u8, numbers: &[u64; 32768], k: drive_st::Kept, memory: &mut [u64]) -> drive_st::Gave
+    requires { ⌜ 2432 ≤ length (now memory) ⌝ }
+    ensures { λ r. ⌜ st.done r (now (memory .exit)) ≡ booksOf code (now (numbers .entry)) k (now (memory .entry)) ⌝ }
+{
+    let from = TABLE;
+    let to = MEMORY;
+    drive_st::step(code, numbers, &mut memory[from..to], k)
+}
+
+// The duplicate window (module 4), the range set (5) and the recorder (6).
+fn lists(
+    kind: u8,
     e: Event,
     numbers: &[u64; 32768],
     mut s: State,
-    memory: &mut [u64],
-    list: &mut [u64],
-) -> State {
-    let places = s.places;
-    let parts = s.parts;
-    if 256 < places {
+    memory: &mut [u64; 2432],
+    list: &mut [u64; 32768],
+) -> State
+    ensures { λ r. ⌜ listed r (now (memory .exit)) (now (list .exit)) ≡ listsOf kind e (now (numbers .entry)) s (now (memory .entry)) (now (list .entry)) ⌝ }
+{
+    if kind == 4 {
+        let old = s.window;
+        let w = drive_sets::note(e.code, numbers[0], old.dedup);
+        s.window = w;
         return s;
     }
-    if 256 < parts {
+    if kind == 5 {
+        let r = drive_rs::step(e.code, e.count, numbers, s.ranges, memory, list);
+        s.ranges = r;
         return s;
     }
-    let end = 2 * places;
-    let upto = 2 * parts;
-    if memory.len() < end {
-        return s;
-    }
-    if list.len() < upto {
-        return s;
-    }
-    let old = s.set;
-    let d = drive_sets::set(
-        e.code,
-        numbers,
-        e.count,
-        &mut memory[..end],
-        old.count,
-        &mut list[..upto],
-    );
-    s.set = d;
-    s
-}
-
-// The recorder of acknowledgements.
-fn acks(e: Event, numbers: &[u64; 32768], mut s: State, memory: &mut [u64]) -> State {
-    if memory.len() < MEMORY {
-        return s;
-    }
-    let from = ACKS;
-    let to = TABLE;
     let old = s.acks;
-    let d = drive_sets::record(e.code, numbers[0], &mut memory[from..to], old.count);
+    let d = acks(e.code, numbers[0], old.count, memory);
     s.acks = d;
     s
 }
 
-// The books of the streams.
-fn streams(e: Event, numbers: &[u64; 32768], mut s: State, memory: &mut [u64]) -> State {
-    if memory.len() < MEMORY {
+// The connection ids (module 8), the MTU search (9) and the books of the streams (10).
+fn peers(
+    kind: u8,
+    e: Event,
+    numbers: &[u64; 32768],
+    bytes: &[u8; 65536],
+    mut s: State,
+    memory: &mut [u64; 2432],
+) -> State
+    ensures { λ r. ⌜ peered r (now (memory .exit)) ≡ peersOf kind e (now (numbers .entry)) (now (bytes .entry)) s (now (memory .entry)) ⌝ }
+{
+    if kind == 8 {
+        let old = s.cids;
+        let g = drive_cq::step(e.code, numbers, bytes, e.first, e.size, old.kept);
+        s.cids = g;
         return s;
     }
-    let from = TABLE;
-    let to = MEMORY;
+    if kind == 9 {
+        let old = s.mtud;
+        let g = drive_mt::step(e.code, numbers, old.kept);
+        s.mtud = g;
+        return s;
+    }
     let old = s.streams;
-    let k = old.kept;
-    let g = drive_st::step(e.code, numbers, &mut memory[from..to], k);
+    let g = books(e.code, numbers, old.kept, memory);
     s.streams = g;
     s
 }
 
+// The modules without a state.
+fn leaf(
+    e: Event,
+    numbers: &[u64; 32768],
+    bytes: &[u8; 65536],
+    scratch: &mut [u8; 65536],
+    mut s: State,
+    list: &mut [u64; 32768],
+) -> State
+    ensures { λ r. ⌜ leafed r (now (scratch .exit)) (now (list .exit)) ≡ leafOf e (now (numbers .entry)) (now (bytes .entry)) (now (scratch .entry)) s (now (list .entry)) ⌝ }
+{
+    let g = drive_leaf::step(
+        e.code,
+        numbers,
+        e.count,
+        bytes,
+        e.first,
+        e.size,
+        scratch,
+        list,
+    );
+    s.leaf = g;
+    s
+}
+
 // One event: what is no event (a code below CT_EQ) leaves all as it was.
-pub fn apply(
+pub fn step(
     e: Event,
     numbers: &[u64; 32768],
     bytes: &[u8; 65536],
@@ -148,124 +167,22 @@ pub fn apply(
     memory: &mut [u64; 2432],
     list: &mut [u64; 32768],
 ) -> State
-    ensures { λ r. ⌜ Untouched (e .code) s r (now (memory .entry)) (now (memory .exit)) ⌝ }
+    ensures { λ r. ⌜ stepped r (now (scratch .exit)) (now (memory .exit)) (now (list .exit)) ≡ stepOf e (now (numbers .entry)) (now (bytes .entry)) (now (scratch .entry)) s (now (memory .entry)) (now (list .entry)) ⌝ }
 {
     let code = e.code;
-    if code < events::CT_EQ {
+    if code < codes::CT_EQ {
         return s;
     }
     s.code = code;
-    let module = code / 16;
-    match module {
-        4 => {
-            let old = s.window;
-            let d = old.dedup;
-            let w = drive_sets::note(code, numbers[0], d);
-            s.window = w;
-            s
-        }
-        5 => {
-            if code == events::RS_CAP {
-                return cap(numbers, s);
-            }
-            set(e, numbers, s, memory, list)
-        }
-        6 => acks(e, numbers, s, memory),
-        8 => {
-            let old = s.cids;
-            let k = old.kept;
-            let g = drive_cq::step(code, numbers, bytes, e.first, e.size, k);
-            s.cids = g;
-            s
-        }
-        9 => {
-            let old = s.mtud;
-            let k = old.kept;
-            let g = drive_mt::step(code, numbers, k);
-            s.mtud = g;
-            s
-        }
-        10 => streams(e, numbers, s, memory),
-        _ => {
-            let g = drive_leaf::step(
-                code,
-                numbers,
-                e.count,
-                bytes,
-                e.first,
-                e.size,
-                scratch,
-                list,
-            );
-            s.leaf = g;
-            s
-        }
+    let kind = code / 16;
+    if kind < 4 {
+        return leaf(e, numbers, bytes, scratch, s, list);
     }
-}
-
-fn show_acks(
-    d: Did,
-    code: u8,
-    memory: &[u64],
-    list: &[u64],
-    buf: &mut [u8; 65536],
-    at: &mut usize,
-) {
-    if MEMORY <= memory.len() {
-        let from = ACKS;
-        let to = TABLE;
-        drive_sets::show_set(d, code, &memory[from..to], list, buf, at);
+    if kind < 7 {
+        return lists(kind, e, numbers, s, memory, list);
     }
-}
-
-fn show_streams(g: drive_st::Gave, memory: &[u64], buf: &mut [u8; 65536], at: &mut usize) {
-    if MEMORY <= memory.len() {
-        let from = TABLE;
-        let to = MEMORY;
-        drive_st::show(g, &memory[from..to], buf, at);
+    if kind == 7 {
+        return leaf(e, numbers, bytes, scratch, s, list);
     }
-}
-
-// The line of the last event.
-pub fn show(
-    s: State,
-    scratch: &[u8; 65536],
-    memory: &[u64; 2432],
-    list: &[u64; 32768],
-    buf: &mut [u8; 65536],
-    at: &mut usize,
-) {
-    let code = s.code;
-    let module = code / 16;
-    match module {
-        4 => {
-            let w = s.window;
-            drive_sets::show_window(w, buf, at);
-        }
-        5 => {
-            let d = s.set;
-            drive_sets::show_set(d, code, memory, list, buf, at);
-        }
-        6 => {
-            let d = s.acks;
-            show_acks(d, code, memory, list, buf, at);
-        }
-        8 => {
-            let g = s.cids;
-            drive_cq::show(g, buf, at);
-        }
-        9 => {
-            let g = s.mtud;
-            drive_mt::show(g, buf, at);
-        }
-        10 => {
-            let g = s.streams;
-            show_streams(g, memory, buf, at);
-        }
-        _ => {
-            let g = s.leaf;
-            drive_leaf::show(g, code, scratch, list, buf, at);
-        }
-    }
-    say::end(buf, at);
+    peers(kind, e, numbers, bytes, s, memory)
 }

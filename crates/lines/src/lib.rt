@@ -2,8 +2,8 @@
 // other; one of more than 65,000 bytes is passed over and said to be too long.
 ghost use mathlib.Core.Path.{_≡_};
 ghost use Prim.Native.Nat.{_+_, _-_, _≤_};
-ghost use lib.ListN.{length, take, drop};
-ghost use Rattle.lines.specs.Lines.{Held, LineEnd};
+ghost use lib.ListN.{length, take};
+ghost use Rattle.lines.specs.Lines.{Held, Read, Next, begun, fitted, part, lineOf, endFrom, oneMore, passedOf, foundOf, longOf, noneOf, lastOf, down};
 
 // What a call of `next` found: a line; nothing yet, so that it is called again; a line that is too long, which is
 // passed over; the end; a read that failed.
@@ -34,6 +34,7 @@ const LONGEST: usize = 65000;
 
 // Nothing read yet.
 pub fn begin() -> Feed
+    ensures { λ r. ⌜ r ≡ begun ⌝ }
     ensures { λ r. ⌜ Held r ⌝ }
 {
     Feed {
@@ -51,7 +52,8 @@ pub fn begin() -> Feed
 // The first line end from `from` on, or `to`.
 fn line_end(buf: &[u8], from: usize, to: usize) -> usize
     requires { ⌜ (from ≤ to) × (to ≤ length (now buf)) ⌝ }
-    ensures { λ r. ⌜ LineEnd (now (buf .entry)) from to r ⌝ }
+    ensures { λ r. ⌜ r ≡ endFrom (to - from) (now (buf .entry)) from ⌝ }
+    ensures { λ r. ⌜ (from ≤ r) × (r ≤ to) ⌝ }
 {
     let mut i = from;
     while i < to {
@@ -66,6 +68,7 @@ fn line_end(buf: &[u8], from: usize, to: usize) -> usize
 // Moves the bytes from..to to the start.
 fn move_down(buf: &mut [u8], from: usize, to: usize)
     requires { ⌜ (from ≤ to) × (to ≤ length (now buf)) ⌝ }
+    ensures { λ _. ⌜ now (buf .exit) ≡ down (now (buf .entry)) from (to - from) ⌝ }
 {
     let mut i = from;
     while i < to {
@@ -83,45 +86,53 @@ struct Got {
 fn read_more(fd: i32, buf: &mut [u8], to: usize) -> Got
     requires { ⌜ to ≤ length (now buf) ⌝ }
     ensures { λ r. ⌜ to + r .n ≤ length (now (buf .entry)) ⌝ }
+    ensures { λ r. ⌜ take to (now (buf .exit)) ≡ take to (now (buf .entry)) ⌝ }
 {
     let got = libc::read(fd, &mut buf[to..]);
     let n = io::count(got, &buf[to..]);
     Got { n, failed: got < 0 }
 }
 
-fn one_more(n: u64) -> u64 {
-    if n < u64::MAX { n + 1 } else { n }
+fn one_more(n: u64) -> u64
+    ensures { λ r. ⌜ r ≡ oneMore n ⌝ }
+{
+    if n < u64::MAX {
+        return n + 1;
+    }
+    n
+}
+
+// No line: what stands before `next` is passed over.
+fn passed(f: Feed, kind: u8, next: usize, number: u64) -> Feed
+    requires { ⌜ Held f ⌝ }
+    requires { ⌜ next ≤ f .to ⌝ }
+    ensures { λ r. ⌜ r ≡ passedOf f kind next number ⌝ }
+    ensures { λ r. ⌜ Held r ⌝ }
+{
+    Feed {
+        kind,
+        start: 0,
+        end: 0,
+        from: next,
+        to: f.to,
+        number,
+        skipping: false,
+        ended: f.ended,
+    }
 }
 
 // The line start..end, after which `from` is next.
 fn found(f: Feed, end: usize, next: usize) -> Feed
     requires { ⌜ Held f ⌝ }
     requires { ⌜ (f .from ≤ end) × ((end ≤ next) × (next ≤ f .to)) ⌝ }
+    ensures { λ r. ⌜ r ≡ foundOf f end next ⌝ }
     ensures { λ r. ⌜ Held r ⌝ }
 {
     if f.skipping {
-        return Feed {
-            kind: MORE,
-            start: 0,
-            end: 0,
-            from: next,
-            to: f.to,
-            number: f.number,
-            skipping: false,
-            ended: f.ended,
-        };
+        return passed(f, MORE, next, f.number);
     }
     if LONGEST < end - f.from {
-        return Feed {
-            kind: LONG,
-            start: 0,
-            end: 0,
-            from: next,
-            to: f.to,
-            number: one_more(f.number),
-            skipping: false,
-            ended: f.ended,
-        };
+        return passed(f, LONG, next, one_more(f.number));
     }
     Feed {
         kind: LINE,
@@ -137,6 +148,7 @@ fn found(f: Feed, end: usize, next: usize) -> Feed
 
 // A full buffer with no line end in it.
 fn too_long(f: Feed) -> Feed
+    ensures { λ r. ⌜ r ≡ longOf f ⌝ }
     ensures { λ r. ⌜ Held r ⌝ }
 {
     if f.skipping {
@@ -166,6 +178,7 @@ fn too_long(f: Feed) -> Feed
 // Nothing found: what is held is 0..to, the input may have ended, and `kind` says what to do.
 fn nothing(f: Feed, kind: u8, to: usize, ended: bool) -> Feed
     requires { ⌜ to ≤ 65536 ⌝ }
+    ensures { λ r. ⌜ r ≡ noneOf f kind to ended ⌝ }
     ensures { λ r. ⌜ Held r ⌝ }
 {
     Feed {
@@ -183,6 +196,7 @@ fn nothing(f: Feed, kind: u8, to: usize, ended: bool) -> Feed
 // What there is after the last line end of an input that has ended.
 fn last(f: Feed) -> Feed
     requires { ⌜ Held f ⌝ }
+    ensures { λ r. ⌜ r ≡ lastOf f ⌝ }
     ensures { λ r. ⌜ Held r ⌝ }
 {
     if f.from == f.to {
@@ -193,8 +207,8 @@ fn last(f: Feed) -> Feed
 
 // A feed that a caller did not get from here may not lie in the buffer: it counts as a new one.
 fn held(f: Feed) -> Feed
+    ensures { λ r. ⌜ r ≡ fitted f ⌝ }
     ensures { λ r. ⌜ Held r ⌝ }
-    ensures { λ r. ⌜ (Held f → r ≡ f) ⌝ }
 {
     if f.end < f.start {
         return begin();
@@ -211,31 +225,16 @@ fn held(f: Feed) -> Feed
     f
 }
 
-// The next line. A call finds at most one line and reads at most once.
-pub fn next(fd: i32, buf: &mut [u8; 65536], f: Feed) -> Feed
-    ensures { λ r. ⌜ Held r ⌝ }
-{
-    next_in(fd, buf, held(f))
-}
-
-fn next_in(fd: i32, buf: &mut [u8], f: Feed) -> Feed
+// Moves what is held to the start, and reads once, behind it.
+fn read_on(fd: i32, buf: &mut [u8], f: Feed) -> Feed
     requires { ⌜ Held f ⌝ }
     requires { ⌜ length (now buf) ≡ 65536 ⌝ }
+    ensures { λ r. ⌜ Read (now (buf .entry)) f (now (buf .exit)) r ⌝ }
     ensures { λ r. ⌜ Held r ⌝ }
 {
     let from = f.from;
     let to = f.to;
-    let end = line_end(buf, from, to);
-    if end < to {
-        return found(f, end, end + 1);
-    }
-    if f.ended {
-        return last(f);
-    }
     let kept = to - from;
-    if kept == 65536 {
-        return too_long(f);
-    }
     move_down(buf, from, to);
     let got = read_more(fd, buf, kept);
     if got.failed {
@@ -247,9 +246,38 @@ fn next_in(fd: i32, buf: &mut [u8], f: Feed) -> Feed
     nothing(f, MORE, kept + got.n, false)
 }
 
+// The next line. A call finds at most one line and reads at most once.
+pub fn next(fd: i32, buf: &mut [u8; 65536], f: Feed) -> Feed
+    ensures { λ r. ⌜ Next (now (buf .entry)) (fitted f) (now (buf .exit)) r ⌝ }
+    ensures { λ r. ⌜ Held r ⌝ }
+{
+    next_in(fd, buf, held(f))
+}
+
+fn next_in(fd: i32, buf: &mut [u8], f: Feed) -> Feed
+    requires { ⌜ Held f ⌝ }
+    requires { ⌜ length (now buf) ≡ 65536 ⌝ }
+    ensures { λ r. ⌜ Next (now (buf .entry)) f (now (buf .exit)) r ⌝ }
+    ensures { λ r. ⌜ Held r ⌝ }
+{
+    let from = f.from;
+    let to = f.to;
+    let end = line_end(buf, from, to);
+    if end < to {
+        return found(f, end, end + 1);
+    }
+    if f.ended {
+        return last(f);
+    }
+    if to - from == 65536 {
+        return too_long(f);
+    }
+    read_on(fd, buf, f)
+}
+
 // The line that `next` found.
 pub fn line(buf: &[u8; 65536], f: Feed) -> &[u8]
-    ensures { λ r. ⌜ (Held f → now r ≡ take (f .end - f .start) (drop (f .start) (now (buf .entry)))) ⌝ }
+    ensures { λ r. ⌜ now r ≡ lineOf f (now (buf .entry)) ⌝ }
 {
     line_in(buf, held(f))
 }
@@ -257,7 +285,7 @@ pub fn line(buf: &[u8; 65536], f: Feed) -> &[u8]
 fn line_in(buf: &[u8], f: Feed) -> &[u8]
     requires { ⌜ Held f ⌝ }
     requires { ⌜ 65536 ≤ length (now buf) ⌝ }
-    ensures { λ r. ⌜ now r ≡ take (f .end - f .start) (drop (f .start) (now (buf .entry))) ⌝ }
+    ensures { λ r. ⌜ now r ≡ part (now (buf .entry)) (f .start) (f .end) ⌝ }
 {
     let start = f.start;
     let end = f.end;

@@ -3,14 +3,16 @@
 ghost use mathlib.Core.Path.{_≡_};
 ghost use Prim.Native.Nat.{_<_, _≤_};
 ghost use lib.ListN.{length};
-ghost use Rattle.print.specs.Print.{decimal, range as Print·range};
-ghost use Rattle.out.specs.Went.{Went};
+ghost use Rattle.print.specs.Print.{decimal, hexed, range as Print·range};
+ghost use Rattle.out.specs.Went.{Room, Went, Written, Flushed};
 use libc::STDOUT_FILENO;
 
 pub const FAILED: usize = usize::MAX;
 
 // Writes out what is gathered.
-pub fn flush(buf: &mut [u8; 65536], at: &mut usize) {
+pub fn flush(buf: &mut [u8; 65536], at: &mut usize)
+    ensures { λ _. ⌜ Flushed (now (buf .entry)) (now (at .entry)) (now (buf .exit)) (now (at .exit)) ⌝ }
+{
     let s: &[u8] = buf;
     let n = *at;
     if n <= s.len() {
@@ -19,12 +21,13 @@ pub fn flush(buf: &mut [u8; 65536], at: &mut usize) {
 }
 
 // Writes s: where the next text goes.
-fn write(s: &[u8]) -> usize {
+fn write(s: &[u8]) -> usize
+    ensures { λ r. ⌜ Written r ⌝ }
+{
     if io::write_all(STDOUT_FILENO, s) {
-        0
-    } else {
-        FAILED
+        return 0;
     }
+    FAILED
 }
 
 // Puts s, which is written out at once where it is longer than the buffer.
@@ -79,7 +82,7 @@ pub fn range(buf: &mut [u8; 65536], at: &mut usize, a: u64, b: u64)
     }
 }
 
-// Puts each byte of s as two hexadecimal digits.
+// Puts a part of such a string.
 fn hex_part(buf: &mut [u8; 65536], at: &mut usize, s: &[u8]) {
     let p = print::hex(buf, *at, s);
     if p.answer == answers::OK {
@@ -101,8 +104,19 @@ fn part_end(i: usize, n: usize) -> usize
     if n - i <= 1024 { n } else { i + 1024 }
 }
 
-// The same for a string of any length, part by part.
-pub fn hex(buf: &mut [u8; 65536], at: &mut usize, s: &[u8]) {
+// Puts each byte of s as two hexadecimal digits: at once where they have room, and else part by part.
+pub fn hex(buf: &mut [u8; 65536], at: &mut usize, s: &[u8])
+    ensures { λ _. ⌜ Room (now (buf .entry)) (now (at .entry)) (hexed (now (s .entry))) (now (buf .exit)) (now (at .exit)) ⌝ }
+{
+    let put = print::hex(buf, *at, s);
+    if put.answer == answers::OK {
+        *at = put.next;
+        return;
+    }
+    hex_parts(buf, at, s);
+}
+
+fn hex_parts(buf: &mut [u8; 65536], at: &mut usize, s: &[u8]) {
     let mut i = 0;
     while i < s.len() {
         let end = part_end(i, s.len());

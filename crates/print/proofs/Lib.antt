@@ -1,3 +1,4 @@
 pub mod Laws
 pub mod RoundTrip
 pub mod Determined
+pub mod Examples

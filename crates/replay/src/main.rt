@@ -29,16 +29,16 @@ fn answer(
         return s;
     }
     let e = events::parse(words, numbers, bytes);
-    if e.code == events::UNKNOWN {
+    if e.code == codes::UNKNOWN {
         say::error(out, at, number, b"no such event");
         return s;
     }
-    if e.code == events::UNFIT {
+    if e.code == codes::UNFIT {
         say::error(out, at, number, b"words that do not fit the event");
         return s;
     }
-    let after = ledger::apply(e, numbers, bytes, scratch, s, memory, list);
-    ledger::show(after, scratch, memory, list, out, at);
+    let after = ledger::step(e, numbers, bytes, scratch, s, memory, list);
+    show::show(after, scratch, memory, list, out, at);
     after
 }
 

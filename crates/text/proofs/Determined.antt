@@ -19,9 +19,11 @@ pub is-end-whole : Whole is-end.Kinds.ps is-end.Kinds.r is-end.Reads.Pre is-end.
 is-end-whole = (λ κs a. tt, λ κs a x y v w p q. (p ∙ sym q, refl))
 
 -- the part of the line that is handed back, as the list that it is
-pub without-note-whole : Open without-note.Kinds.ps without-note.Kinds.r without-note.Reads.Pre
-    × FixedBy without-note.Kinds.ps without-note.Kinds.r (List ℕ) (λ κs x. x .now) without-note.Reads.Post
-without-note-whole = (λ κs a. tt, λ κs a x y v w p q. (p ∙ sym q, refl))
+pub without-note-whole : FixedBy without-note.Kinds.ps without-note.Kinds.r (List ℕ) (λ κs x. x .now) without-note.Reads.Post
+without-note-whole κs a x y v w p q = (p ∙ sym q, refl)
+
+pub without-note-open : Open without-note.Kinds.ps without-note.Kinds.r without-note.Reads.Pre
+without-note-open κs a = tt
 
 pub same-whole : Whole same.Kinds.ps same.Kinds.r same.Reads.Pre same.Reads.Post
 same-whole = (λ κs a. tt, λ κs a x y v w p q. (p ∙ sym q, refl))

@@ -1,18 +1,16 @@
--- `drive_leaf::read_number` meets its contract. The parts that are lent lie within what they are parts of. Assumes nothing.
+-- `read_number` meets its contract. The part that is lent lies within what it is a part of. Assumes nothing.
 use mathlib.Core.Path.{sym}
 use lib.Seq.{length-take-le}
 use borrow.Author.Needs.{needs}
+use Rattle.drive_leaf.proofs.Laws.{strings}
 use Rattle.drive_leaf.proofs.read_number.Statement.{statement}
 use Rattle.drive_leaf.proofs.read_number.Tie as tie
 
 plain-requires : tie.Need-plain-requires
 plain-requires c κs = search needs
 
-give-requires : tie.Need-give-requires
-give-requires c κs = search needs
-
 returns : tie.Need-returns
-returns c = search needs
+returns c = search (needs, strings)
 
 slice-aggregate-expand : tie.Need-slice-aggregate-expand
 slice-aggregate-expand c = sym (length-take-le _ _ (search needs))
@@ -23,21 +21,16 @@ expand-requires c κs = search needs
 number-requires : tie.Need-number-requires
 number-requires c κs = search needs
 
-give-requires-2 : tie.Need-give-requires-2
-give-requires-2 c κs = search needs
-
 returns-2 : tie.Need-returns-2
-returns-2 c = search needs
+returns-2 c = search (needs, strings)
 
 pub read-number-spec : {M : Type 1} → statement M
 read-number-spec =
     tie.close
     (tie.spec
     plain-requires
-    give-requires
     returns
     slice-aggregate-expand
     expand-requires
     number-requires
-    give-requires-2
     returns-2)

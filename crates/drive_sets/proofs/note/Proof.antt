@@ -1,19 +1,14 @@
--- `drive_sets::note` meets its contract. Each return rewrites with the test that led there and with what the library promises. Assumes nothing.
+-- `note` meets its contract: the test picks the event, and the window promises the rest. Assumes nothing.
 use borrow.Author.Needs.{needs}
-use borrow.Author.Tests.{eq-eqb, ne-eqb}
-use Rattle.drive_sets.specs.Sets.{noteOf}
-use Rattle.drive_sets.proofs.Laws.{note-new, note-insert}
+use Rattle.drive_sets.proofs.Laws.{basics}
 use Rattle.drive_sets.proofs.note.Statement.{statement}
 use Rattle.drive_sets.proofs.note.Tie as tie
 
-plain-requires : tie.Need-plain-requires
-plain-requires c κs = search needs
-
-new-requires : tie.Need-new-requires
-new-requires c κs = search needs
+begin-requires : tie.Need-begin-requires
+begin-requires c κs = search needs
 
 returns : tie.Need-returns
-returns c = search (needs, note-new)
+returns c = search (needs, basics)
 
 insert-requires : tie.Need-insert-requires
 insert-requires c κs = search needs
@@ -25,8 +20,9 @@ number-requires : tie.Need-number-requires
 number-requires c κs = search needs
 
 returns-2 : tie.Need-returns-2
-returns-2 c = search (needs, note-insert)
+returns-2 c = search (needs, basics)
 
 pub note-spec : {M : Type 1} → statement M
 note-spec =
-    tie.close (tie.spec plain-requires new-requires returns insert-requires bit-requires number-requires returns-2)
+    tie.close
+    (tie.spec begin-requires returns insert-requires bit-requires number-requires returns-2)

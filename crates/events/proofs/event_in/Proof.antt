@@ -14,17 +14,17 @@ returns : tie.Need-returns
 returns c =
     event-unknown _ _ _ _ _ _ _ (c .before .before .before .find .ensures .0) (c .before .if1 .taken) (c .none .ensures)
 
-sub-words : tie.Need-sub-words
-sub-words c = search needs
+sub-take : tie.Need-sub-take
+sub-take c = search needs
 
-part-words-start : tie.Need-part-words-start
-part-words-start c = search needs
+part-take-start : tie.Need-part-take-start
+part-take-start c = search needs
 
-part-words-end : tie.Need-part-words-end
-part-words-end c = search needs
+part-take-end : tie.Need-part-take-end
+part-take-end c = search needs
 
-words-requires : tie.Need-words-requires
-words-requires c κs = search needs
+take-requires : tie.Need-take-requires
+take-requires c κs = search needs
 
 add-finish : tie.Need-add-finish
 add-finish c = search needs
@@ -40,7 +40,7 @@ same-length-2 c = search needs
 
 returns-2 : tie.Need-returns-2
 returns-2 c =
-    event-known _ _ _ _ _ _ _ (c .before .before .before .before .before .before .before .before .before .before .before .before .find .ensures .0) (c .before .before .before .before .before .before .before .before .before .before .if1 .left) (c .before .before .before .before .before .before .words .ensures) (c .finish .ensures)
+    event-known _ _ _ _ _ _ _ (c .before .before .before .before .before .before .before .before .before .before .before .before .find .ensures .0) (c .before .before .before .before .before .before .before .before .before .before .if1 .left) (c .before .before .before .before .before .before .take .ensures) (c .finish .ensures)
 
 pub event-in-spec : {M : Type 1} → statement M
 event-in-spec =
@@ -49,10 +49,10 @@ event-in-spec =
     find-requires
     none-requires
     returns
-    sub-words
-    part-words-start
-    part-words-end
-    words-requires
+    sub-take
+    part-take-start
+    part-take-end
+    take-requires
     add-finish
     finish-requires
     same-length

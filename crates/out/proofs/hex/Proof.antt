@@ -1,56 +1,20 @@
--- `out::hex` meets its contract. Each part ends behind its start. Assumes nothing.
-use Prim.Native.Nat.{_-_, _≤_}
-use lib.ListN.{length}
+-- `out::hex` meets its contract. The digits had room at once, or the promise says nothing. Assumes nothing.
+use Rattle.out.proofs.Laws.{room-in, room-out}
 use borrow.Author.Needs.{needs}
 use Rattle.out.proofs.hex.Statement.{statement}
 use Rattle.out.proofs.hex.Tie as tie
 
-abbrev Inv-loop : tie.InvT-loop
-Inv-loop buf₀ at₀ s i₀ buf at i =
-    i ≤ length s
+hex-requires : tie.Need-hex-requires
+hex-requires c κs = search needs
 
-abbrev μ-loop : tie.MeasureT-loop
-μ-loop buf₀ at₀ s i₀ buf at i = length s - i
+returns : tie.Need-returns
+returns c = search (needs, room-in)
 
-loop-holds : tie.Need-loop-holds Inv-loop μ-loop
-loop-holds c = search needs
+hex-parts-requires : tie.Need-hex-parts-requires
+hex-parts-requires c κs = search needs
 
-part-end-requires : tie.Need-part-end-requires Inv-loop μ-loop
-part-end-requires c κs = search needs
-
-sub-hex-part : tie.Need-sub-hex-part Inv-loop μ-loop
-sub-hex-part c = search needs
-
-part-hex-part-start : tie.Need-part-hex-part-start Inv-loop μ-loop
-part-hex-part-start c = search needs
-
-part-hex-part-end : tie.Need-part-hex-part-end Inv-loop μ-loop
-part-hex-part-end c = search needs
-
-hex-part-requires : tie.Need-hex-part-requires Inv-loop μ-loop
-hex-part-requires c κs = search needs
-
-loop-less : tie.Need-loop-less Inv-loop μ-loop
-loop-less c = search needs
-
-loop-again : tie.Need-loop-again Inv-loop μ-loop
-loop-again c = search needs
-
-returns : tie.Need-returns Inv-loop μ-loop
-returns c = search needs
+returns-2 : tie.Need-returns-2
+returns-2 c = search (needs, room-out)
 
 pub hex-spec : {M : Type 1} → statement M
-hex-spec =
-    tie.close
-    (tie.spec
-    Inv-loop
-    μ-loop
-    loop-holds
-    part-end-requires
-    sub-hex-part
-    part-hex-part-start
-    part-hex-part-end
-    hex-part-requires
-    loop-less
-    loop-again
-    returns)
+hex-spec = tie.close (tie.spec hex-requires returns hex-parts-requires returns-2)

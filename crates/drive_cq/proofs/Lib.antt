@@ -1,0 +1,4 @@
+pub mod Lists
+pub mod Laws
+pub mod Determined
+pub mod Examples

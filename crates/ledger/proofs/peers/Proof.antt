@@ -1,0 +1,28 @@
+-- `ledger::peers` meets its contract. Each return is a law of Laws.antt, from what the calls before it promise. Assumes nothing.
+use Rattle.ledger.proofs.Laws.{laws}
+use borrow.Author.Needs.{needs}
+use Rattle.ledger.proofs.peers.Statement.{statement}
+use Rattle.ledger.proofs.peers.Tie as tie
+use Rattle.drive_mt.proofs.step.Reads as step-reads′
+
+step-requires : tie.Need-step-requires
+step-requires c κs = search needs
+
+returns : tie.Need-returns
+returns c = search (needs, laws)
+
+step-requires-2 : tie.Need-step-requires-2
+step-requires-2 c κs = search needs
+
+returns-2 : tie.Need-returns-2
+returns-2 c = search (needs, laws)
+
+books-requires : tie.Need-books-requires
+books-requires c κs = search needs
+
+returns-3 : tie.Need-returns-3
+returns-3 c = search (needs, laws)
+
+pub peers-spec : {M : Type 1} → statement M
+peers-spec =
+    tie.close (tie.spec step-requires returns step-requires-2 returns-2 books-requires returns-3)

@@ -1,0 +1,46 @@
+-- `ledger::step` meets its contract. Each return is a law of Laws.antt, from what the calls before it promise. Assumes nothing.
+use Rattle.ledger.proofs.Laws.{laws}
+use borrow.Author.Needs.{needs}
+use Rattle.ledger.proofs.step.Statement.{statement}
+use Rattle.ledger.proofs.step.Tie as tie
+
+returns : tie.Need-returns
+returns c = search (needs, laws)
+
+leaf-requires : tie.Need-leaf-requires
+leaf-requires c κs = search needs
+
+returns-2 : tie.Need-returns-2
+returns-2 c = search (needs, laws)
+
+lists-requires : tie.Need-lists-requires
+lists-requires c κs = search needs
+
+returns-3 : tie.Need-returns-3
+returns-3 c = search (needs, laws)
+
+leaf-requires-2 : tie.Need-leaf-requires-2
+leaf-requires-2 c κs = search needs
+
+returns-4 : tie.Need-returns-4
+returns-4 c = search (needs, laws)
+
+peers-requires : tie.Need-peers-requires
+peers-requires c κs = search needs
+
+returns-5 : tie.Need-returns-5
+returns-5 c = search (needs, laws)
+
+pub step-spec : {M : Type 1} → statement M
+step-spec =
+    tie.close
+    (tie.spec
+    returns
+    leaf-requires
+    returns-2
+    lists-requires
+    returns-3
+    leaf-requires-2
+    returns-4
+    peers-requires
+    returns-5)

@@ -1,0 +1,86 @@
+// The line of an event of the connection-id queue: its answer, and the queue (docs/EVENTS.md).
+use cid_queue::CidQueue;
+use cid_queue::Entry;
+use drive_cq::Gave;
+
+// The first bytes of an id.
+fn show_id(id: &[u8; 20], len: usize, buf: &mut [u8; 65536], at: &mut usize) {
+    let s: &[u8] = id;
+    if len <= s.len() {
+        say::bytes(buf, at, &s[..len]);
+    }
+}
+
+// A token.
+fn show_token(token: &[u8; 16], buf: &mut [u8; 65536], at: &mut usize) {
+    out::hex(buf, at, token);
+}
+
+// The values: nothing, numbers and a token, a number and an id, or yes and no.
+fn show_values(g: Gave, buf: &mut [u8; 65536], at: &mut usize) {
+    let said = g.said;
+    say::answer(buf, at, said.answer);
+    if said.answer != answers::OK {
+        return;
+    }
+    if g.retired {
+        say::range(buf, at, said.a, said.b);
+        out::text(buf, at, b" ");
+        let token = g.token;
+        show_token(&token, buf, at);
+        return;
+    }
+    if g.named {
+        say::value(buf, at, said.a);
+        out::text(buf, at, b" ");
+        let id = g.id;
+        let len = g.len;
+        show_id(&id, len, buf, at);
+        return;
+    }
+    if said.count == 1 {
+        say::value(buf, at, said.a);
+    }
+}
+
+// SEQ:CID/TOKEN of an id held.
+fn show_entry(e: Entry, buf: &mut [u8; 65536], at: &mut usize) {
+    if e.answer != answers::OK {
+        return;
+    }
+    say::value(buf, at, e.seq);
+    out::text(buf, at, b":");
+    let id = e.id;
+    let len = e.len;
+    show_id(&id, len, buf, at);
+    out::text(buf, at, b"/");
+    if e.known {
+        let token = e.token;
+        show_token(&token, buf, at);
+        return;
+    }
+    out::text(buf, at, b"-");
+}
+
+fn show_queue(q: CidQueue, buf: &mut [u8; 65536], at: &mut usize) {
+    let n = q.active_seq();
+    say::value(buf, at, n.seq);
+    show_entry(q.entry(0), buf, at);
+    show_entry(q.entry(1), buf, at);
+    show_entry(q.entry(2), buf, at);
+    show_entry(q.entry(3), buf, at);
+    show_entry(q.entry(4), buf, at);
+}
+
+// The line of an event.
+pub fn show(g: Gave, buf: &mut [u8; 65536], at: &mut usize) {
+    show_values(g, buf, at);
+    say::bar(buf, at);
+    let k = g.kept;
+    if k.has {
+        let q = k.queue;
+        show_queue(q, buf, at);
+        return;
+    }
+    out::text(buf, at, b" -");
+}
