@@ -3,3 +3,4 @@ pub mod Insert
 pub mod Remove
 pub mod Within
 pub mod Changes
+pub mod Determined

@@ -41,20 +41,6 @@ pub fn passed(list: &[u64], count: usize, s: u64) -> usize
     i
 }
 
-// The smaller of two numbers.
-fn smaller(a: u64, b: u64) -> u64
-    ensures { λ r. ⌜ r ≡ min a b ⌝ }
-{
-    if a < b { a } else { b }
-}
-
-// The larger of two numbers.
-fn larger(a: u64, b: u64) -> u64
-    ensures { λ r. ⌜ r ≡ max a b ⌝ }
-{
-    if a < b { b } else { a }
-}
-
 // A range that took up the ranges before number upto.
 pub struct Grown {
     pub upto: usize,
@@ -80,8 +66,8 @@ pub fn grow(list: &[u64], from: usize, count: usize, s: u64, e: u64) -> Grown
                 hi: b,
             };
         }
-        a = smaller(a, x);
-        b = larger(b, y);
+        a = bounded::least(a, x);
+        b = bounded::most(b, y);
         i += 1;
     }
     Grown {
@@ -224,8 +210,8 @@ fn clip(list: &[u64], from: usize, n: usize, s: u64, e: u64, out: &mut [u64])
     let mut k = 0;
     while k < n {
         let i = from + k;
-        let a = larger(s, list[i * 2]);
-        let b = smaller(e, list[i * 2 + 1]);
+        let a = bounded::most(s, list[i * 2]);
+        let b = bounded::least(e, list[i * 2 + 1]);
         out[k * 2] = a;
         out[k * 2 + 1] = b;
         k += 1;

@@ -25,8 +25,8 @@ fn span(s: u64, e: u64) -> u64 {
 }
 
 // Whether number x is in the set of bits.
-fn has(set: u64, x: u64) -> bool {
-    if x < 32 { (set >> x) % 2 == 1 } else { false }
+fn has(bits: u64, x: u64) -> bool {
+    if x < 32 { (bits >> x) % 2 == 1 } else { false }
 }
 
 // Where a walk over the bits stands: the next place of the flat list, and whether the last number was in the set.
@@ -36,8 +36,8 @@ struct Walk {
 }
 
 // At number x a range begins or ends where the set changes.
-fn step(list: &mut [u64], w: Walk, set: u64, x: u64) -> Walk {
-    let now = has(set, x);
+fn step(list: &mut [u64], w: Walk, bits: u64, x: u64) -> Walk {
+    let now = has(bits, x);
     if now == w.inside {
         return w;
     }
@@ -53,14 +53,14 @@ fn step(list: &mut [u64], w: Walk, set: u64, x: u64) -> Walk {
 }
 
 // Writes the ranges of the set over the front of list; how many they are.
-fn ranges_of(list: &mut [u64], set: u64) -> usize {
+fn ranges_of(list: &mut [u64], bits: u64) -> usize {
     let mut w = Walk {
         k: 0,
         inside: false,
     };
     let mut x: u64 = 0;
     while x < 32 {
-        w = step(list, w, set, x);
+        w = step(list, w, bits, x);
         x += 1;
     }
     w.k / 2

@@ -23,32 +23,32 @@ loop-holds c = (search needs, refl, refl)
 add-i : tie.Need-add-i Inv-loop μ-loop
 add-i c = search needs
 
-mul-larger : tie.Need-mul-larger Inv-loop μ-loop
-mul-larger c = search needs
+mul-most : tie.Need-mul-most Inv-loop μ-loop
+mul-most c = search needs
 
-mul-larger-2 : tie.Need-mul-larger-2 Inv-loop μ-loop
-mul-larger-2 c = search needs
+mul-most-2 : tie.Need-mul-most-2 Inv-loop μ-loop
+mul-most-2 c = search needs
 
-shared-slice-read-larger : tie.Need-shared-slice-read-larger Inv-loop μ-loop
-shared-slice-read-larger c = search needs
+shared-slice-read-most : tie.Need-shared-slice-read-most Inv-loop μ-loop
+shared-slice-read-most c = search needs
 
-larger-requires : tie.Need-larger-requires Inv-loop μ-loop
-larger-requires c κs = search needs
+most-requires : tie.Need-most-requires Inv-loop μ-loop
+most-requires c κs = search needs
 
-mul-smaller : tie.Need-mul-smaller Inv-loop μ-loop
-mul-smaller c = search needs
+mul-least : tie.Need-mul-least Inv-loop μ-loop
+mul-least c = search needs
 
-add-smaller : tie.Need-add-smaller Inv-loop μ-loop
-add-smaller c = search needs
+add-least : tie.Need-add-least Inv-loop μ-loop
+add-least c = search needs
 
-mul-smaller-2 : tie.Need-mul-smaller-2 Inv-loop μ-loop
-mul-smaller-2 c = search needs
+mul-least-2 : tie.Need-mul-least-2 Inv-loop μ-loop
+mul-least-2 c = search needs
 
-shared-slice-read-smaller : tie.Need-shared-slice-read-smaller Inv-loop μ-loop
-shared-slice-read-smaller c = search needs
+shared-slice-read-least : tie.Need-shared-slice-read-least Inv-loop μ-loop
+shared-slice-read-least c = search needs
 
-smaller-requires : tie.Need-smaller-requires Inv-loop μ-loop
-smaller-requires c κs = search needs
+least-requires : tie.Need-least-requires Inv-loop μ-loop
+least-requires c κs = search needs
 
 mul-out : tie.Need-mul-out Inv-loop μ-loop
 mul-out c = search needs
@@ -80,7 +80,7 @@ loop-less c = search needs
 loop-again : tie.Need-loop-again Inv-loop μ-loop
 loop-again c =
     let v = c .before .before .before .before .before in
-    (search needs, simp length-set (v .loop .inv .1), clip-turn _ _ _ _ _ _ _ _ _ (omega arith) (v .loop .inv .2) (c .before .before .larger .ensures) (c .smaller .ensures))
+    (search needs, simp length-set (v .loop .inv .1), clip-turn _ _ _ _ _ _ _ _ _ (omega arith) (v .loop .inv .2) (c .before .before .most .ensures) (c .least .ensures))
 
 same-length : tie.Need-same-length Inv-loop μ-loop
 same-length c = search needs
@@ -99,15 +99,15 @@ clip-spec =
     μ-loop
     loop-holds
     add-i
-    mul-larger
-    mul-larger-2
-    shared-slice-read-larger
-    larger-requires
-    mul-smaller
-    add-smaller
-    mul-smaller-2
-    shared-slice-read-smaller
-    smaller-requires
+    mul-most
+    mul-most-2
+    shared-slice-read-most
+    most-requires
+    mul-least
+    add-least
+    mul-least-2
+    shared-slice-read-least
+    least-requires
     mul-out
     mul-out-2
     slice-write-out

@@ -44,11 +44,11 @@ returns c =
     let w = c .before .before .before in
     sym (grown-stop _ _ _ _ _ (w .loop-test .taken) (c .if1 .taken)) ∙ w .before .loop .inv .1
 
-smaller-requires : tie.Need-smaller-requires Inv-loop μ-loop
-smaller-requires c κs = search needs
+least-requires : tie.Need-least-requires Inv-loop μ-loop
+least-requires c κs = search needs
 
-larger-requires : tie.Need-larger-requires Inv-loop μ-loop
-larger-requires c κs = search needs
+most-requires : tie.Need-most-requires Inv-loop μ-loop
+most-requires c κs = search needs
 
 add-i : tie.Need-add-i Inv-loop μ-loop
 add-i c = search needs
@@ -59,7 +59,7 @@ loop-less c = search needs
 loop-again : tie.Need-loop-again Inv-loop μ-loop
 loop-again c =
     let w = c .before .before .before .before .before in
-    (search needs, rw (c .before .smaller .ensures, c .larger .ensures) (grown-on _ _ _ _ _ (w .loop-test .taken) (c .before .before .if1 .left) ∙ w .before .loop .inv .1))
+    (search needs, rw (c .before .least .ensures, c .most .ensures) (grown-on _ _ _ _ _ (w .loop-test .taken) (c .before .before .if1 .left) ∙ w .before .loop .inv .1))
 
 returns-2 : tie.Need-returns-2 Inv-loop μ-loop
 returns-2 c = sym (grown-end _ _ _ _ _ (c .loop-test .left)) ∙ c .before .loop .inv .1
@@ -79,8 +79,8 @@ grow-spec =
     mul-y-2
     shared-slice-read-y
     returns
-    smaller-requires
-    larger-requires
+    least-requires
+    most-requires
     add-i
     loop-less
     loop-again

@@ -7,10 +7,10 @@ use Rattle.range_set_small.proofs.ranges_of.Statement.{statement}
 use Rattle.range_set_small.proofs.ranges_of.Tie as tie
 
 abbrev Inv-loop : tie.InvT-loop
-Inv-loop list₀ set w₀ x₀ list w x = (x ≤ 32) × (length list ≡ length list₀)
+Inv-loop list₀ bits w₀ x₀ list w x = (x ≤ 32) × (length list ≡ length list₀)
 
 abbrev μ-loop : tie.MeasureT-loop
-μ-loop list₀ set w₀ x₀ list w x = 32 - x
+μ-loop list₀ bits w₀ x₀ list w x = 32 - x
 
 loop-holds : tie.Need-loop-holds Inv-loop μ-loop
 loop-holds c = search needs
