@@ -10,9 +10,10 @@ use lib.ListN.{length, getD, take, drop, set, length-drop, length-append, drop-o
 use lib.Seq.{drop-drop, length-take-le, take-at, drop-at, set-split}
 use borrow.Author.Tests.{le-leb, lt-leb, lt-ltb, le-ltb}
 use borrow.Rule.Slice.PartMut.{putMid}
+use Rattle.answers.proofs.Tests.{split}
 use Rattle.answers.specs.Answers.{OK, RANGE, ROOM}
 use Rattle.varint.specs.Varint.{encode, lenOf, writeVarint}
-use Rattle.varint.proofs.Laws.{order, rest, log-0, log-1, log-2, log-3}
+use Rattle.varint.proofs.Laws.{rest, log-0, log-1, log-2, log-3}
 use Rattle.varint.proofs.Theorems.{leaves, length-encode}
 use Rattle.range_list.specs.Ranges.{Range, rangeAt, read, wellFormed}
 use Rattle.ack_frame.specs.Grammar.{pairsBytes, pairsFor, Descends, frameOf}
@@ -56,9 +57,9 @@ pub len-le : (v : ℕ) → lenOf v ≤ 8
 len-le v =
     ⊎-elim (λ l. rw (log-0 v l) (omega arith))
     (λ g. ⊎-elim (λ l. rw (log-1 v g l) (omega arith))
-    (λ g. ⊎-elim (λ l. rw (log-2 v g l) (omega arith)) (λ g. rw (log-3 v g) (omega arith)) (order v 1073741824))
-    (order v 16384))
-    (order v 64)
+    (λ g. ⊎-elim (λ l. rw (log-2 v g l) (omega arith)) (λ g. rw (log-3 v g) (omega arith)) (split v 1073741824))
+    (split v 16384))
+    (split v 64)
 
 -- three writes in a row.
 pub put-three : (l : List ℕ) (at a b : ℕ) (r : List ℕ) → at + lenOf a + lenOf b + length r ≤ length l →

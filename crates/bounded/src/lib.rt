@@ -1,5 +1,5 @@
-// Sums and differences of u64 that stop at a bound instead of wrapping, and the greater of two.
-// The Rust's saturating_sub, max and saturating_add (streams/state.rs), with the top as an argument.
+// Sums and differences of u64 that stop at a bound instead of wrapping, and the smaller and the greater of two.
+// The Rust's saturating_sub, min, max and saturating_add, the last with the top as an argument.
 ghost use mathlib.Core.Path.{_≡_};
 ghost use Prim.Native.Nat.{_+_, _-_, min, max};
 
@@ -8,6 +8,13 @@ pub fn less(a: u64, b: u64) -> u64
     ensures { λ r. ⌜ r ≡ a - b ⌝ }
 {
     if a < b { 0 } else { a - b }
+}
+
+// The smaller of the two.
+pub fn least(a: u64, b: u64) -> u64
+    ensures { λ r. ⌜ r ≡ min a b ⌝ }
+{
+    if a < b { a } else { b }
 }
 
 // The greater of the two.

@@ -5,9 +5,10 @@ use mathlib.Core.Bool.{true}
 use mathlib.Core.Logic.{⊎-elim}
 use Prim.Native.Nat.{ℕ, zero, suc, _+_, _-_, _≤_, _<_}
 use native.Mathlib.Omega.{arith}
+use Rattle.answers.proofs.Tests.{split}
 use Rattle.cid_ring.specs.declared.Ring.{Ring}
 use Rattle.cid_ring.specs.Cids.{held}
-use Rattle.cid_ring.proofs.Places.{clash, order, same}
+use Rattle.cid_ring.proofs.Places.{clash, same}
 use Rattle.cid_ring.proofs.Found.{first-from, first-yes, first-no}
 use Rattle.cid_ring.proofs.Kept.{Sound, held-from, held-below}
 use Rattle.cid_queue.specs.Queue.{nth}
@@ -48,7 +49,7 @@ module _ (q : Ring) where
         (λ u.
         clash (held q n) e (first-no (held q) (nth q k + 1) (q .offset + 5 - (nth q k + 1)) n (omega arith) u))
         (λ u. u)
-        (order n (nth q (suc k)))
+        (split n (nth q (suc k)))
 
     sought : (d k : ℕ) → nth q k ≤ n → n ≤ nth q k + d → Told n
     sought zero k l u = found k (omega arith)

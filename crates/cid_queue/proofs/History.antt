@@ -9,10 +9,11 @@ use Prim.Native.Nat.{ℕ, _+_, _^_, _≤_, _<_, max}
 use native.Mathlib.Omega.{arith}
 use lib.Dec.{eqb, ltb}
 use borrow.Author.Tests.{lt-ltb, le-ltb, ne-eqb}
+use Rattle.answers.proofs.Tests.{split}
 use Rattle.answers.specs.Answers.{RETIRED}
 use Rattle.cid_ring.specs.declared.Slot.{Slot}
 use Rattle.cid_ring.specs.Cids.{vacant, under, held}
-use Rattle.cid_ring.proofs.Places.{by, order}
+use Rattle.cid_ring.proofs.Places.{by}
 use Rattle.cid_ring.proofs.Kept.{Sound, sound-if, held-from, held-below}
 use Rattle.cid_queue.specs.declared.CidQueue.{CidQueue}
 use Rattle.cid_queue.specs.declared.Made.{Made}
@@ -71,7 +72,7 @@ module _ (es : List (ℕ × Slot)) (p : ℕ) (q : CidQueue) (h : Holds es p q) w
       ⊎-elim
       (λ k. rw (lt-ltb n b k))
       (λ k. let j : q .ring .offset ≤ n = omega arith in rw (le-ltb n b k) (h .says n ∙ rw (le-ltb n (q .ring .offset) j)))
-      (order n b)
+      (split n b)
 
   module _ (seq prior : ℕ) (id : List ℕ) (len : ℕ) (token : List ℕ) where
     abbrev new-id : Slot
@@ -97,7 +98,7 @@ module _ (es : List (ℕ × Slot)) (p : ℕ) (q : CidQueue) (h : Holds es p q) w
             ⊎-elim
             (λ k. let d : n ≡ seq → ⊥ = λ e. omega arith in rw (ne-eqb n seq d, lt-ltb n to k))
             (λ k. rw (le-ltb n to k))
-            (order n to)
+            (split n to)
 
   went : (r : Retirement) → Switched (q .ring) r → Holds es (max p 0) (r .queue)
   went r t =

@@ -8,10 +8,11 @@ use Prim.Native.Nat.{ℕ, _+_, _-_, _^_, _≤_, _<_}
 use native.Mathlib.Omega.{arith}
 use lib.Dec.{eqb, ltb, leb}
 use borrow.Author.Tests.{lt-ltb, le-ltb, eq-eqb, ne-eqb, eqb-true}
+use Rattle.answers.proofs.Tests.{split}
 use Rattle.cid_ring.specs.declared.Slot.{Slot}
 use Rattle.cid_ring.specs.declared.Ring.{Ring}
 use Rattle.cid_ring.specs.Cids.{vacant, under, held, ringOf, retired, put, fit, empty}
-use Rattle.cid_ring.proofs.Places.{by, clash, order, same, ring-in, ring-past}
+use Rattle.cid_ring.proofs.Places.{by, clash, same, ring-in, ring-past}
 use Rattle.cid_ring.proofs.Found.{first-from, first-within, first-yes, first-no}
 use Rattle.cid_ring.proofs.Kept.{Sound, both, vacant-fit, under-put, under-retired, put-offset, retired-offset, held-small, held-from, held-below}
 use Rattle.cid_queue.specs.declared.Made.{Made}
@@ -49,7 +50,7 @@ module _ (q : Ring) (seq prior : ℕ) (s : Slot) (r : Retirement) (h : Taken q s
       let f : held q (q .offset) ≡ false = first-no (held q) (floor q prior) (seq - floor q prior) (q .offset) (omega arith) u in
       clash (held q (q .offset)) (h .good .active) f)
       (λ u. omega (arith, to-from))
-      (order (q .offset) to)
+      (split (q .offset) to)
 
   pub taken-ring : r .queue .ring ≡ put (retired q to) seq s
   unfolding accepted
@@ -156,7 +157,7 @@ module _ (q : Ring) (id : List ℕ) (len : ℕ) (r : Made) (h : Renewed q (initi
 -- a fresh queue holds the handshake's id under 0, and nothing else
 under-empty : (n : ℕ) → under empty n ≡ vacant
 unfolding empty
-under-empty n = ⊎-elim (λ u. ring-in (λ x. vacant) 0 n (omega arith) u) (λ u. ring-past (λ x. vacant) 0 n u) (order n 5)
+under-empty n = ⊎-elim (λ u. ring-in (λ x. vacant) 0 n (omega arith) u) (λ u. ring-past (λ x. vacant) 0 n u) (split n 5)
 
 module _ (id : List ℕ) (len : ℕ) where
   pub made-long : made id len .answer ≡ 0 → usable len ≡ true
@@ -213,7 +214,7 @@ module _ (q : Ring) (to : ℕ) (next : Ring) (o : next .offset ≡ to) (l : q .o
             ⊎-elim
             (λ k. (held-from q n p, omega (arith, held-below q n p)))
             (λ k. clash (held next n) (stays n k p) f)
-            (order n to);
+            (split n to);
         left = λ n a b. by (held next n) (λ p. let z : ⊥ = omega (arith, held-from next n p) in absurd z) (λ p. p);
         first = λ a. refl;
         token = λ a. ap (λ (x : ℕ). under next x .token) (sym o);

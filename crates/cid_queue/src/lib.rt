@@ -103,20 +103,6 @@ fn no_entry(answer: u8) -> Entry
     }
 }
 
-// The smaller of two numbers.
-fn lesser(a: u64, b: u64) -> u64
-    ensures { λ r. ⌜ r ≡ min a b ⌝ }
-{
-    if a < b { a } else { b }
-}
-
-// The greater of two numbers.
-fn greater(a: u64, b: u64) -> u64
-    ensures { λ r. ⌜ r ≡ max a b ⌝ }
-{
-    if a < b { b } else { a }
-}
-
 // Whether the arguments are in their limits and the ring in good form.
 fn takes(ring: Ring, sequence: u64, retire_prior_to: u64, len: usize) -> bool
     ensures { λ r. ⌜ r ≡ takes ring sequence «retire_prior_to» len ⌝ }
@@ -151,7 +137,7 @@ fn moved(ring: Ring, to: u64, next: Ring) -> Retirement
         answer: OK,
         queue: CidQueue { ring: next },
         start: ring.offset,
-        end: lesser(to, ring.offset + PLACES),
+        end: bounded::least(to, ring.offset + PLACES),
         token,
     }
 }
@@ -238,7 +224,7 @@ impl CidQueue {
         if sequence < ring.offset {
             return refuse(ring, RETIRED);
         }
-        let least = greater(ring.offset, retire_prior_to);
+        let least = bounded::most(ring.offset, retire_prior_to);
         if sequence >= least + PLACES {
             return refuse(ring, LIMIT);
         }

@@ -8,10 +8,11 @@ use native.Mathlib.Omega.{arith}
 use native.Mathlib.Nat.{max-eq-right}
 use lib.Dec.{eqb, ltb, leb}
 use borrow.Author.Tests.{lt-ltb, le-ltb, ne-eqb, ltb-true}
+use Rattle.answers.proofs.Tests.{split}
 use Rattle.cid_ring.specs.declared.Slot.{Slot}
 use Rattle.cid_ring.specs.declared.Ring.{Ring}
 use Rattle.cid_ring.specs.Cids.{vacant, under, held, ringOf, retired, put, fit, fits, sound}
-use Rattle.cid_ring.proofs.Places.{clash, order, same, under-below, under-past, ring-in, ring-below, ring-past}
+use Rattle.cid_ring.proofs.Places.{clash, same, under-below, under-past, ring-in, ring-below, ring-past}
 
 -- both parts of a test that holds
 pub both : (a b : Bool) → (a && b) ≡ true → (a ≡ true) × (b ≡ true)
@@ -20,7 +21,7 @@ both false b e = clash false e refl
 
 -- where a number stands to the five numbers that have a place
 pub three : {P : Type 0} (q : Ring) (n : ℕ) → (n < q .offset → P) → (q .offset ≤ n → n < q .offset + 5 → P) → (q .offset + 5 ≤ n → P) → P
-three q n f g h = ⊎-elim f (λ l. ⊎-elim (g l) h (order n (q .offset + 5))) (order n (q .offset))
+three q n f g h = ⊎-elim f (λ l. ⊎-elim (g l) h (split n (q .offset + 5))) (split n (q .offset))
 
 pub put-offset : (q : Ring) (m : ℕ) (s : Slot) → put q m s .offset ≡ q .offset
 unfolding put ringOf
@@ -54,8 +55,8 @@ under-retired q to n l =
     (⊎-elim
     (λ v. ring-in f to n k v ∙ rw (le-ltb n to k))
     (λ v. ring-past f to n v ∙ under-past q n (omega arith))
-    (order n (to + 5))))
-    (order n to))
+    (split n (to + 5))))
+    (split n to))
   where
     f : ℕ → Slot
     f x = cond (ltb x to) vacant (under q x)

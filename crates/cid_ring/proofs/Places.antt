@@ -11,6 +11,7 @@ use lib.Dec.{eqb, ltb}
 use lib.ListN.{length, getD, set, length-set, length-map}
 use lib.Seq.{ext-getD, getD-set-same, getD-set-other}
 use borrow.Author.Tests.{lt-ltb, le-ltb, le-leb, lt-leb, eq-eqb, ne-eqb, ltb-true, ltb-false, eqb-true, eqb-false}
+use Rattle.answers.proofs.Tests.{split}
 use Rattle.cid_ring.specs.declared.Slot.{Slot}
 use Rattle.cid_ring.specs.declared.Ring.{Ring}
 use Rattle.cid_ring.specs.Cids.{vacant, blank, under, numberAt, table, ringOf, retired, put}
@@ -23,10 +24,6 @@ by false f g = g refl
 -- a test does not say both
 pub clash : {P : Type 0} (b : Bool) → b ≡ true → b ≡ false → P
 clash b e f = let z : _≡_ {A = ℕ} 0 1 = cc in let y : ⊥ = omega arith in absurd y
-
--- a number is below another, or not
-pub order : (a b : ℕ) → (a < b) ⊎ (b ≤ a)
-order a b = by (ltb a b) (λ e. inl (ltb-true a b e)) (λ e. inr (ltb-false a b e))
 
 -- two numbers are equal, or not
 pub same : (a b : ℕ) → (a ≡ b) ⊎ (a ≡ b → ⊥)
@@ -153,7 +150,7 @@ below-more q n l u =
     ∙ ⊎-elim
     (λ h. let g : m < n + 1 = omega arith in rw (lt-ltb m n h, lt-ltb m (n + 1) g))
     (λ h. let g : n + 1 ≤ m = omega (arith, d) in rw (le-ltb m n h, le-ltb m (n + 1) g))
-    (order m n))
+    (split m n))
     (same m n))
 
 -- the first of the five numbers that `to` leaves
@@ -180,7 +177,7 @@ below-all q to l =
         let g : numberAt (q .offset) (n % 5) < past q to = omega arith in
         table-at (λ x. cond (ltb x (past q to)) vacant (under q x)) (q .offset) (n % 5) (omega arith)
         ∙ rw (lt-ltb (numberAt (q .offset) (n % 5)) (past q to) g) (under-past q n h))
-        (order n (q .offset + 5)))
+        (split n (q .offset + 5)))
 
 -- a number that is not above the active one changes nothing
 pub retired-none : (q : Ring) (to : ℕ) → length (q .slots) ≡ 5 → to ≤ q .offset → q ≡ retired q to

@@ -42,13 +42,6 @@ fn fit(s: Slot, n: u64) -> bool
     (s.len <= 20) & ((s.len == 0) | ((n < NUMBERS) & (s.known | (n == 0))))
 }
 
-// The smaller of two numbers.
-fn lesser(a: u64, b: u64) -> u64
-    ensures { λ r. ⌜ r ≡ min a b ⌝ }
-{
-    if a < b { a } else { b }
-}
-
 impl Ring {
     // Nothing under any number.
     pub fn empty() -> Ring
@@ -127,7 +120,7 @@ impl Ring {
         let mut slots = self.slots;
         let none = vacant();
         let mut at = self.offset;
-        let past = at + lesser(to - at, PLACES);
+        let past = at + bounded::least(to - at, PLACES);
         while at < past {
             let place = (at % PLACES) as usize;
             slots[place] = none;

@@ -4,24 +4,19 @@ use Prim.Native.Nat.{ℕ, zero, suc, _+_, _-_, _*_, _/_, _%_, _^_, _<_, _≤_}
 use mathlib.Core.Path.{_≡_, refl, subst}
 use mathlib.Core.Bool.{Bool, true, false, _&&_}
 use mathlib.Core.Logic.{_⊎_, inl, inr, ⊎-elim}
-use mathlib.Core.List.{List, _++_, append-assoc}
+use mathlib.Core.List.{List}
 use native.Mathlib.Omega.{arith}
 use native.Mathlib.Nat.{pow-suc, pow-le-pow-right, one-le-pow}
 use native.Mathlib.Numerals.{add-one}
-use lib.ListN.{getD, length, drop, set, length-set}
-use lib.Seq.{drop-cons, getD-set-same, drop-set-lt}
+use lib.ListN.{getD, length}
 use lib.Dec.{ltb, leb, lit<}
 use borrow.Author.Tests.{lt-ltb, le-ltb, le-leb, lt-leb, ltb-true, ltb-false, leb-true}
+use Rattle.answers.proofs.Tests.{split}
 use Rattle.answers.specs.Answers.{OK, SHORT, RANGE, ROOM}
+use Rattle.big_endian.specs.Bytes.{putBytes}
+use Rattle.big_endian.proofs.Laws.{put-all}
 use Rattle.packet_number.specs.declared.Encoded.{Encoded}
-use Rattle.packet_number.specs.PacketNumber.{limit, distance, writable, window, fewest, lenOf, refused, taken, newOf, bytes, done, encodeOf, digits, candidate, tooLow, tooHigh, moved, choice, unread, found, readable, expandOf}
-
--- two numbers are in one order or the other
-pub order : (a b : ℕ) → (a < b) ⊎ (b ≤ a)
-order a b = by-test (ltb a b) refl where
-  by-test : (t : Bool) → ltb a b ≡ t → (a < b) ⊎ (b ≤ a)
-  by-test true e = inl (ltb-true a b e)
-  by-test false e = inr (ltb-false a b e)
+use Rattle.packet_number.specs.PacketNumber.{limit, distance, writable, window, fewest, lenOf, refused, taken, newOf, done, encodeOf, digits, candidate, tooLow, tooHigh, moved, choice, unread, found, readable, expandOf}
 
 -- two tests hold where their conjunction does
 pub both : (a b : Bool) → (a && b) ≡ true → (a ≡ true) × (b ≡ true)
@@ -116,9 +111,9 @@ module _ (d : ℕ) where
       (λ h. subst P (fewest-1 h) (one h))
       (λ a. ⊎-elim
       (λ h. subst P (fewest-2 a h) (two a h))
-      (λ b. ⊎-elim (λ h. subst P (fewest-3 b h) (three b h)) (λ c. subst P (fewest-4 c) (four c)) (order (2 * d) 16777216))
-      (order (2 * d) 65536))
-      (order (2 * d) 256)
+      (λ b. ⊎-elim (λ h. subst P (fewest-3 b h) (three b h)) (λ c. subst P (fewest-4 c) (four c)) (split (2 * d) 16777216))
+      (split (2 * d) 65536))
+      (split (2 * d) 256)
 
   pub fewest-low : 1 ≤ fewest d
   fewest-low = by-length (λ k. 1 ≤ k) (λ _. omega arith) (λ _ _. omega arith) (λ _ _. omega arith) (λ _. omega arith)
@@ -149,18 +144,10 @@ module _ (number acked : ℕ) where
       unfolding encodeOf
       encode-room l p = rw (p, h, lt-leb (lenOf number acked) (length out) (rw len-is at l))
 
-      pub encode-puts : {left : List ℕ} → r .len ≤ length out → left ≡ bytes (r .len) number ++ drop (r .len) out
+      pub encode-puts : {left : List ℕ} → r .len ≤ length out → left ≡ putBytes (r .len) number out
           → done r left ≡ encodeOf out number acked
       unfolding encodeOf newOf
-      encode-puts l p = rw (p, len-is, h, le-leb (lenOf number acked) (length out) (rw len-is at l), e, h)
-
--- the last of i bytes is stored, and what is left of x goes before it
-pub bytes-step : (i x : ℕ) (out : List ℕ) → 0 < i → i ≤ length out
-    → bytes (i - 1) (x / 256) ++ drop (i - 1) (set out (i - 1) (x % 256)) ≡ bytes i x ++ drop i out
-bytes-step zero x out p h = let z : ⊥ = omega arith in absurd z
-bytes-step (suc m) x out p h =
-    let e : suc m - 1 ≡ m = omega arith in
-    rw (e, drop-cons (set out m (x % 256)) m 0 (simp length-set h), getD-set-same out m (x % 256) 0 h, drop-set-lt (suc m) out m (x % 256) (omega arith), append-assoc)
+      encode-puts l p = rw (p, put-all (r .len) number out l, len-is, h, le-leb (lenOf number acked) (length out) (rw len-is at l), e, h)
 
 -- ---- reading
 -- one byte more, and still a number of the window

@@ -8,16 +8,17 @@ use native.Mathlib.Omega.{arith}
 use native.Mathlib.Nat.{mod-lt, mod-eq-of-lt, div-add-mod', mul-le-mul-right, add-mul-mod-self-right, add-mod-right, mod-eq-sub-mod}
 use lib.Dec.{ltb, leb}
 use borrow.Author.Tests.{leb-true, leb-false, ltb-true, ltb-false, le-leb, lt-ltb}
+use Rattle.answers.proofs.Tests.{split}
 use Rattle.packet_number.specs.PacketNumber.{limit, candidate, tooLow, tooHigh, moved, choice, InWindow, apart, Nearer, Nearest}
-use Rattle.packet_number.proofs.Laws.{order, both}
+use Rattle.packet_number.proofs.Laws.{both}
 
 -- two multiples of w are the same, or w apart or more
 blocks : (w p q : ℕ) → (p * w ≡ q * w) ⊎ ((p * w + w ≤ q * w) ⊎ (q * w + w ≤ p * w))
 blocks w p q =
     ⊎-elim
     (λ l. inr (inl (step p q l)))
-    (λ g. ⊎-elim (λ l. inr (inr (step q p l))) (λ h. let e : p ≡ q = omega arith in inl (rw e)) (order q p))
-    (order p q)
+    (λ g. ⊎-elim (λ l. inr (inr (step q p l))) (λ h. let e : p ≡ q = omega arith in inl (rw e)) (split q p))
+    (split p q)
   where
     step : (a b : ℕ) → a < b → a * w + w ≤ b * w
     step a b l = omega (arith, mul-le-mul-right w l)
@@ -56,8 +57,8 @@ module _ (expected win c : ℕ) (even : win / 2 + win / 2 ≡ win) (above : expe
       (λ a b. record { not-low = λ _. omega arith; not-high = λ _. omega arith })
       (λ a b. record { not-low = λ _. omega arith; not-high = λ _. omega arith })
       (λ top bottom. record {
-        not-low = λ x. ⊎-elim (λ y. y) (λ y. let t = top y in let z : ⊥ = omega arith in absurd z) (order expected (c + win / 2));
-        not-high = λ x. ⊎-elim (λ y. let b = bottom y in let z : ⊥ = omega arith in absurd z) (λ y. y) (order (expected + win / 2) c);
+        not-low = λ x. ⊎-elim (λ y. y) (λ y. let t = top y in let z : ⊥ = omega arith in absurd z) (split expected (c + win / 2));
+        not-high = λ x. ⊎-elim (λ y. let b = bottom y in let z : ⊥ = omega arith in absurd z) (λ y. y) (split (expected + win / 2) c);
       })
 
 -- the candidate lies less than a window from what is expected, and has the truncated bits
@@ -96,7 +97,7 @@ placed win v m e =
 
 module _ (expected win v m : ℕ) (even : win / 2 + win / 2 ≡ win) (at : InWindow expected win v) (l : m < limit) (e : m % win ≡ v % win) where
   nearer : (apart m expected ≤ apart v expected → (apart v expected ≤ apart m expected) × (m ≤ v)) → Nearer expected v m
-  nearer f = ⊎-elim inl (λ g. let x = f g in inr (omega arith, x .1)) (order (apart v expected) (apart m expected))
+  nearer f = ⊎-elim inl (λ g. let x = f g in inr (omega arith, x .1)) (split (apart v expected) (apart m expected))
 
   -- what lies in the window is nearest
   window-nearer : Nearer expected v m
@@ -154,7 +155,7 @@ module _ (expected win truncated : ℕ) (even : win / 2 + win / 2 ≡ win) (fits
       (λ a b. let z : ⊥ = omega (arith, last) in absurd z)
       (λ a b. (λ x. let z : ⊥ = omega (arith, last) in absurd z, λ x. let z : ⊥ = omega (arith, last) in absurd z))
       (λ top bottom.
-      (λ x. ⊎-elim (λ y. let b = bottom (omega (arith, last)) in let z : ⊥ = omega (arith, last) in absurd z) (λ y. y) (order (win / 2) truncated), λ x. omega (arith, last)))
+      (λ x. ⊎-elim (λ y. let b = bottom (omega (arith, last)) in let z : ⊥ = omega (arith, last) in absurd z) (λ y. y) (split (win / 2) truncated), λ x. omega (arith, last)))
     where
       last : candidate expected win truncated ≡ truncated + limit
       last = candidate-is expected win truncated fits ∙ rw (e, ends)

@@ -7,9 +7,10 @@ use mathlib.Core.Logic.{_⊎_, ⊎-elim}
 use mathlib.Core.List.{List}
 use native.Mathlib.Omega.{arith}
 use lib.ListN.{getD, length}
+use Rattle.answers.proofs.Tests.{split}
 use Rattle.answers.specs.Answers.{OK, RANGE}
 use Rattle.packet_number.specs.PacketNumber.{limit, window, digits, choice, unread, readable, expandOf, Nearest}
-use Rattle.packet_number.proofs.Laws.{order, window-suc, window-le, readable-low, readable-high, readable-limit, expand-past, expand-reads}
+use Rattle.packet_number.proofs.Laws.{window-suc, window-le, readable-low, readable-high, readable-limit, expand-past, expand-reads}
 use Rattle.packet_number.proofs.Nearest.{choice-nearest, choice-within, choice-last}
 
 -- what holds of four lengths holds of every length from 1 to 4
@@ -57,7 +58,7 @@ module _ (s : List ℕ) (len largest : ℕ) (byte : (j : ℕ) → getD s j 0 < 2
       let z : ⊥ = omega arith in
       absurd z)
       (λ x. omega (arith, readable-limit len largest h))
-      (order (largest + 1) limit)
+      (split (largest + 1) limit)
 
   -- an OK is the nearest packet number, to the largest received and one, that ends in these bytes
   pub expand-nearest : (v : ℕ) → expandOf s len largest ≡ record { answer = OK; number = v }
@@ -72,7 +73,7 @@ module _ (s : List ℕ) (len largest : ℕ) (byte : (j : ℕ) → getD s j 0 < 2
       let q : _≡_ {A = ℕ} 2 0 = ap (λ r. r .answer) (expand-past s len largest h l refl refl refl g ∙ e) in
       let z : ⊥ = omega arith in
       absurd z)
-      (order taken-by limit)
+      (split taken-by limit)
 
   -- a RANGE: the last packet number was received, and the bytes are no more than half a window
   pub expand-refused : expandOf s len largest ≡ unread RANGE → (largest + 1 ≡ limit) × (digits s len ≤ window len / 2)
@@ -85,7 +86,7 @@ module _ (s : List ℕ) (len largest : ℕ) (byte : (j : ℕ) → getD s j 0 < 2
       (λ g.
       let last : largest + 1 ≡ limit = at-last g in
       (last, choice-last (largest + 1) (window len) (digits s len) (window-even len low high) (digits-lt s byte len) (window-ends len low high) last small .0 g))
-      (order taken-by limit)
+      (split taken-by limit)
 
   -- and these are all of them
   pub expand-refuses-last : largest + 1 ≡ limit → digits s len ≤ window len / 2 → expandOf s len largest ≡ unread RANGE

@@ -14,20 +14,19 @@ use lib.Arith.{mod-mul}
 use borrow.Author.Tests.{le-leb, lt-leb, lt-ltb}
 use contract.Lifetimes.{Lfts}
 use denote.Ref.{RefT, at-last}
+use Rattle.answers.proofs.Tests.{split}
 use Rattle.answers.specs.Answers.{OK}
+use Rattle.big_endian.specs.Bytes.{bytes}
+use Rattle.big_endian.proofs.Laws.{length-bytes}
 use Rattle.packet_number.specs.declared.Encoded.{Encoded}
 use Rattle.packet_number.specs.declared.Expanded.{Expanded}
-use Rattle.packet_number.specs.PacketNumber.{limit, distance, writable, window, fewest, lenOf, taken, bytes, digits, choice, readable, expandOf, done, encodeOf}
-use Rattle.packet_number.proofs.Laws.{order, window-suc, window-pos, fewest-low, fewest-high, writable-limit, writable-near, expand-reads}
+use Rattle.packet_number.specs.PacketNumber.{limit, distance, writable, window, fewest, lenOf, taken, digits, choice, readable, expandOf, done, encodeOf}
+use Rattle.packet_number.proofs.Laws.{window-suc, window-pos, fewest-low, fewest-high, writable-limit, writable-near, expand-reads}
 use Rattle.packet_number.proofs.Shortest.{fewest-enough}
 use Rattle.packet_number.proofs.Nearest.{choice-bits, choice-window, window-only}
 use Rattle.packet_number.proofs.Reading.{window-even}
 use Rattle.packet_number.proofs.encode as encode
 use Rattle.packet_number.proofs.expand as expand
-
-length-bytes : (k x : ℕ) → length (bytes k x) ≡ k
-length-bytes zero x = refl
-length-bytes (suc k) x = simp (length-append, length-bytes k (x / 256)) (omega arith)
 
 -- the low bytes of x are read as x without its high ones, whatever follows
 pub digits-bytes : (k x : ℕ) (rest : List ℕ) → digits (bytes k x ++ rest) k ≡ x % window k
@@ -86,7 +85,7 @@ encode-ok out number acked e = by-writable (writable number acked) refl where
       ⊎-elim
       (λ l. let y : _≡_ {A = ℕ} 11 0 = rw (h, lt-leb (lenOf number acked) (length out) l) at e in let z : ⊥ = omega arith in absurd z)
       (λ l. (h, rw (h, le-leb (lenOf number acked) (length out) l)))
-      (order (length out) (lenOf number acked))
+      (split (length out) (lenOf number acked))
   by-writable false h = let y : _≡_ {A = ℕ} 2 0 = rw h at e in let z : ⊥ = omega arith in absurd z
 
 -- the contracts as the source states them: `encode` may answer r and leave m in the buffer, `expand` may answer x

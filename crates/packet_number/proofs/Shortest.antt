@@ -3,8 +3,9 @@
 use Prim.Native.Nat.{ℕ, suc, _*_, _^_, _<_, _≤_}
 use mathlib.Core.Logic.{⊎-elim}
 use native.Mathlib.Omega.{arith}
+use Rattle.answers.proofs.Tests.{split}
 use Rattle.packet_number.specs.PacketNumber.{window, fewest}
-use Rattle.packet_number.proofs.Laws.{order, by-length, fewest-low, fewest-high, window-mono}
+use Rattle.packet_number.proofs.Laws.{by-length, fewest-low, fewest-high, window-mono}
 
 module _ (d : ℕ) where
   -- so many bytes represent more than twice the distance, where any number of bytes up to four does
@@ -14,7 +15,7 @@ module _ (d : ℕ) where
 
   -- where n bytes are not enough, k that are have to be more
   more : (n k : ℕ) → window n ≤ 2 * d → 2 * d < window k → suc n ≤ k
-  more n k a h = ⊎-elim (λ g. g) (λ g. let z : ⊥ = omega (arith, window-mono g) in absurd z) (order n k)
+  more n k a h = ⊎-elim (λ g. g) (λ g. let z : ⊥ = omega (arith, window-mono g) in absurd z) (split n k)
 
   -- and no fewer do
   pub fewest-least : (k : ℕ) → 1 ≤ k → 2 * d < window k → fewest d ≤ k

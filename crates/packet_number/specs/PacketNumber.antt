@@ -10,6 +10,7 @@ use mathlib.Core.List.{List, [], _∷_, _++_}
 use lib.ListN.{length, getD, drop}
 use lib.Dec.{ltb, leb}
 use Rattle.answers.specs.Answers.{OK, SHORT, RANGE, ROOM}
+use Rattle.big_endian.specs.Bytes.{bytes}
 use Rattle.packet_number.specs.declared.Encoded.{Encoded}
 use Rattle.packet_number.specs.declared.Expanded.{Expanded}
 
@@ -53,11 +54,6 @@ taken len number = record { answer = OK; len = len; value = number % window len 
 -- what `new` answers
 unfoldable pub newOf : ℕ → ℕ → Encoded
 newOf number acked = cond (writable number acked) (taken (lenOf number acked) number) (refused RANGE)
-
--- the k low bytes of x, the highest first
-abbrev pub bytes : ℕ → ℕ → List ℕ
-bytes zero x = []
-bytes (suc k) x = bytes k (x / 256) ++ (x % 256 ∷ [])
 
 -- what a call that writes comes to: its answer, and the memory it leaves
 pub record Done : Type 0 where

@@ -3,9 +3,8 @@
 ghost use mathlib.Core.Path.{_≡_};
 ghost use mathlib.Core.Bool.{true};
 ghost use Prim.Native.Nat.{_≤_, _<_, _^_};
-ghost use mathlib.Core.List.{_++_};
-ghost use lib.ListN.{length, drop};
-ghost use Rattle.packet_number.specs.PacketNumber.{distance, writable, fewest, window, bytes, digits, choice, refused, newOf, done, encodeOf, unread, expandOf};
+ghost use lib.ListN.{length};
+ghost use Rattle.packet_number.specs.PacketNumber.{distance, writable, fewest, window, digits, choice, refused, newOf, done, encodeOf, unread, expandOf};
 use answers::OK;
 use answers::RANGE;
 use answers::ROOM;
@@ -115,20 +114,6 @@ pub fn new(number: u64, acked: u64) -> Encoded
     refused(RANGE)
 }
 
-// Writes the len low bytes of x at the start of out.
-fn put(out: &mut [u8], len: usize, x: u64)
-    requires { ⌜ len ≤ length (now out) ⌝ }
-    ensures { λ r. ⌜ now (out .exit) ≡ bytes len x ++ drop len (now (out .entry)) ⌝ }
-{
-    let mut i = len;
-    let mut rest = x;
-    while 0 < i {
-        i -= 1;
-        out[i] = (rest % 256) as u8;
-        rest = rest / 256;
-    }
-}
-
 // Writes the field that `new` describes at the start of out; RANGE as there, then ROOM, and then nothing is written.
 pub fn encode(out: &mut [u8], number: u64, acked: u64) -> Encoded
     ensures { λ r. ⌜ done r (now (out .exit)) ≡ encodeOf (now (out .entry)) number acked ⌝ }
@@ -141,7 +126,7 @@ pub fn encode(out: &mut [u8], number: u64, acked: u64) -> Encoded
     if out.len() < len {
         return refused(ROOM);
     }
-    put(out, len, number);
+    big_endian::put(out, len, number);
     encoded
 }
 

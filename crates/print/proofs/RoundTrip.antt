@@ -10,11 +10,12 @@ use native.Mathlib.Nat.{pow-suc}
 use lib.ListN.{length, getD}
 use lib.Dec.{ltb, leb}
 use borrow.Author.Tests.{lt-ltb, le-ltb, le-leb, lt-leb}
+use Rattle.answers.proofs.Tests.{split}
 use Rattle.text.specs.declared.Digits.{Digits}
 use Rattle.text.specs.declared.Digits.the-variants.{Is, Not}
 use Rattle.text.specs.Numbers.{numberFrom, numberOf}
 use Rattle.text.specs.Bytes.{hexValue, isHex, unhexed}
-use Rattle.text.proofs.Laws.{order, number-start}
+use Rattle.text.proofs.Laws.{number-start}
 use Rattle.print.specs.Print.{glyph, decimalOnto, decimal, hexed}
 
 -- a digit that is read goes behind the number so far
@@ -42,12 +43,12 @@ onto-high k n rest h b again g =
 
 onto-read : (k n : ℕ) (rest : List ℕ) → n < 10 ^ suc k → n < 18446744073709551616 → OntoRead k n rest
 onto-read zero n rest h b = onto-low zero n rest b (omega arith)
-onto-read (suc k) n rest h b = ⊎-elim (onto-high k n rest h b (onto-read k)) (onto-low (suc k) n rest b) (order 9 n)
+onto-read (suc k) n rest h b = ⊎-elim (onto-high k n rest h b (onto-read k)) (onto-low (suc k) n rest b) (split 9 n)
 
 onto-some : (k n : ℕ) (rest : List ℕ) → 0 < length (decimalOnto (suc k) n rest)
 unfolding decimalOnto
-onto-some zero n rest = ⊎-elim (λ g. rw (lt-ltb 9 n g) (omega arith)) (λ l. rw (le-ltb 9 n l) (omega arith)) (order 9 n)
-onto-some (suc k) n rest = ⊎-elim (λ g. rw (lt-ltb 9 n g) (onto-some k (n / 10) (glyph (n % 10) ∷ rest))) (λ l. rw (le-ltb 9 n l) (omega arith)) (order 9 n)
+onto-some zero n rest = ⊎-elim (λ g. rw (lt-ltb 9 n g) (omega arith)) (λ l. rw (le-ltb 9 n l) (omega arith)) (split 9 n)
+onto-some (suc k) n rest = ⊎-elim (λ g. rw (lt-ltb 9 n g) (onto-some k (n / 10) (glyph (n % 10) ∷ rest))) (λ l. rw (le-ltb 9 n l) (omega arith)) (split 9 n)
 
 -- what is printed for a number, parsed, is the number
 pub number-back : (n : ℕ) → n < 18446744073709551616 → numberOf (decimal n) ≡ Is n
@@ -70,7 +71,7 @@ glyph-high : (d : ℕ) → d < 16 → 10 ≤ d → hexValue (glyph d) ≡ d
 glyph-high d h g = let m : 87 + d - 87 ≡ d = omega arith in rw (le-ltb d 10 g) (value-high (87 + d) (omega arith) (omega arith) ∙ m)
 
 glyph-value : (d : ℕ) → d < 16 → hexValue (glyph d) ≡ d
-glyph-value d h = ⊎-elim (glyph-low d) (glyph-high d h) (order d 10)
+glyph-value d h = ⊎-elim (glyph-low d) (glyph-high d h) (split d 10)
 
 -- every element is a byte
 abbrev pub Bytes : List ℕ → Type 0

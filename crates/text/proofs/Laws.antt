@@ -10,6 +10,7 @@ use lib.ListN.{length, drop, getD, take, set, length-drop, drop-of-length-le}
 use lib.Seq.{drop-cons, sets}
 use lib.Dec.{ltb, leb, eqb}
 use borrow.Author.Tests.{lt-ltb, le-ltb, le-leb, lt-leb, eq-eqb, ne-eqb, ltb-true, ltb-false, not-true, not-false}
+use Rattle.answers.proofs.Tests.{split}
 use Rattle.text.specs.declared.Digits.{Digits}
 use Rattle.text.specs.declared.Digits.the-variants.{Is, Not}
 use Rattle.text.specs.declared.Word.{Word}
@@ -19,13 +20,6 @@ use Rattle.text.specs.declared.Hex.the-variants.{End, Not as Hex·Not, R
 use Rattle.text.specs.declared.Bytes.{Bytes}
 use Rattle.text.specs.Bytes.{hexValue, isHex, unhexed, unhexAt, bytesIn, bytesAt, digitsOf, Done, done}
 use Rattle.text.specs.Numbers.{numberFrom, numberOf, numberIn, numberAt}
-
--- two numbers are in one order or the other
-pub order : (a b : ℕ) → (a < b) ⊎ (b ≤ a)
-order a b = by-test (ltb a b) refl where
-  by-test : (t : Bool) → ltb a b ≡ t → (a < b) ⊎ (b ≤ a)
-  by-test true e = inl (ltb-true a b e)
-  by-test false e = inr (ltb-false a b e)
 
 pub clash : false ≡ true → ⊥
 clash e = let z : _≡_ {A = ℕ} 0 1 = cc in omega arith
@@ -146,9 +140,9 @@ pair-at s i h e =
     (λ a. ⊎-elim
     (λ b. record { high = a; low = b; rest = sym (hex-on s i h a b) ∙ e })
     (λ b. absurd (clash (sym (hex-low s i h a b) ∙ e)))
-    (order (hexValue (getD s (i + 1) 0)) 16))
+    (split (hexValue (getD s (i + 1) 0)) 16))
     (λ a. absurd (clash (sym (hex-high s i h a) ∙ e)))
-    (order (hexValue (getD s i 0)) 16)
+    (split (hexValue (getD s i 0)) 16)
 
 module _ (out s : List ℕ) (at i : ℕ) where
   pub fill-on : (a b : ℕ) → 2 * i + 1 < length s → a ≡ hexValue (getD s (2 * i) 0) → b ≡ hexValue (getD s (2 * i + 1) 0)

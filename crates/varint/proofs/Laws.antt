@@ -3,26 +3,21 @@ use Prim.Native.Nat.{ℕ, zero, suc, _+_, _-_, _*_, _/_, _%_, _^_, _<_, _≤_}
 use mathlib.Core.Path.{_≡_, refl, ap, sym, _∙_, subst}
 use mathlib.Core.Bool.{Bool, true, false}
 use mathlib.Core.Logic.{_⊎_, inl, inr}
-use mathlib.Core.List.{List, _++_, append-assoc}
+use mathlib.Core.List.{List, _++_}
 use native.Mathlib.Omega.{arith}
 use native.Mathlib.Nat.{pow-suc, pow-le-pow-right, le-refl}
-use lib.Seq.{drop-cons, getD-set-same, drop-set-lt, take-all}
-use lib.ListN.{getD, length, take, drop, set, length-set, length-drop}
+use lib.Seq.{take-all}
+use lib.ListN.{getD, length, take, drop, length-drop}
 use lib.Dec.{lit<, ltb}
 use lib.Pow.{pow-mono, pow-pos}
 use borrow.Author.Tests.{lt-ltb, le-ltb, le-leb, lt-leb, ltb-true, ltb-false}
 use Rattle.answers.specs.Answers.{SHORT, RANGE, ROOM}
-use Rattle.varint.specs.Varint.{width, digits, logOf, readVarint, readAt, sound, soundAt, bytes, lenOf, sizeOf, marked, form, encode, done, writeVarint}
+use Rattle.big_endian.specs.Bytes.{bytes, putBytes}
+use Rattle.big_endian.proofs.Laws.{put-all}
+use Rattle.varint.specs.Varint.{width, digits, logOf, readVarint, readAt, sound, soundAt, lenOf, sizeOf, marked, form, encode, done, writeVarint}
 use Rattle.varint.specs.declared.Got.{Got}
 use Rattle.varint.specs.declared.Got.the-variants as got
 use Rattle.varint.specs.declared.Wrote.the-variants as wrote
-
--- two numbers are in one order or the other
-pub order : (a b : ℕ) → (a < b) ⊎ (b ≤ a)
-order a b = by-test (ltb a b) refl where
-  by-test : (t : Bool) → ltb a b ≡ t → (a < b) ⊎ (b ≤ a)
-  by-test true e = inl (ltb-true a b e)
-  by-test false e = inr (ltb-false a b e)
 
 pub width-1 : (b : ℕ) → b < 64 → width b ≡ 1
 unfolding width
@@ -96,14 +91,6 @@ pub log-3 : (v : ℕ) → 1073741824 ≤ v → logOf v ≡ 3
 unfolding logOf
 log-3 v g = rw (le-ltb v 64 (omega arith), le-ltb v 16384 (omega arith), le-ltb v 1073741824 g)
 
--- the last of i bytes is stored, and what is left of x goes before it
-pub bytes-step : (i x : ℕ) (out : List ℕ) → 0 < i → i ≤ length out →
-    bytes (i - 1) (x / 256) ++ drop (i - 1) (set out (i - 1) (x % 256)) ≡ bytes i x ++ drop i out
-bytes-step zero x out p h = let z : ⊥ = omega arith in absurd z
-bytes-step (suc m) x out p h =
-    let e : suc m - 1 ≡ m = omega arith in
-    rw (e, drop-cons (set out m (x % 256)) m 0 (simp length-set h), getD-set-same out m (x % 256) 0 h, drop-set-lt (suc m) out m (x % 256) (omega arith), append-assoc)
-
 -- the size of a number that is a varint, and of one that is none
 pub size-fits : (v : ℕ) → v < 2 ^ 62 → sizeOf v ≡ lenOf v
 unfolding sizeOf
@@ -143,6 +130,9 @@ module _ (v : ℕ) (out : List ℕ) where
     writes-len g =
         let e = size-fits v h in
         rw (lt-ltb v (2 ^ 62) h, le-leb (lenOf v) (length out) (omega arith), z, e)
+
+    pub writes-put : {m : ℕ} {left : List ℕ} → n ≤ length out → m ≡ marked v → left ≡ putBytes n m out → done (wrote.Len n) left ≡ writeVarint out v
+    writes-put g em el = rw (el, em, put-all n (marked v) out g) (writes-len g)
 
 -- the part `&s[at..]` is what is left from there
 pub rest : (s : List ℕ) (at : ℕ) → take (length s - at) (drop at s) ≡ drop at s

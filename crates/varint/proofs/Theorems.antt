@@ -11,13 +11,12 @@ use lib.ListN.{getD, length, take, drop, length-append}
 use lib.Seq.{getD-at, take-suc}
 use lib.Arith.{mod-mul}
 use lib.Pow.{pow-lt}
-use Rattle.varint.specs.Varint.{width, digits, logOf, readVarint, bytes, lenOf, form, Fits, encode, writeVarint}
+use Rattle.answers.proofs.Tests.{split}
+use Rattle.big_endian.specs.Bytes.{bytes}
+use Rattle.big_endian.proofs.Laws.{length-bytes}
+use Rattle.varint.specs.Varint.{width, digits, logOf, readVarint, lenOf, form, Fits, encode, writeVarint}
 use Rattle.varint.specs.declared.Got.the-variants.{Value}
-use Rattle.varint.proofs.Laws.{order, width-1, width-2, width-4, width-8, digits-lt, reads-value, writes-len, size-fits, reads-short, log-0, log-1, log-2, log-3}
-
-pub length-bytes : (n x : ℕ) → length (bytes n x) ≡ n
-length-bytes zero x = refl
-length-bytes (suc n) x = simp (length-append, length-bytes n (x / 256)) (omega arith)
+use Rattle.varint.proofs.Laws.{width-1, width-2, width-4, width-8, digits-lt, reads-value, writes-len, size-fits, reads-short, log-0, log-1, log-2, log-3}
 
 pub length-form : (k v : ℕ) → length (form k v) ≡ 2 ^ k
 unfolding form
@@ -83,9 +82,9 @@ short-fits v h =
     (λ g. ⊎-elim
     (λ l. rw (log-2 v g l) (omega arith, omega arith))
     (λ g. rw (log-3 v g) (omega arith, h))
-    (order v 1073741824))
-    (order v 16384))
-    (order v 64)
+    (split v 1073741824))
+    (split v 16384))
+    (split v 64)
 
 -- What is written is read back, whatever follows.
 pub round : (v : ℕ) (rest : List ℕ) → v < 2 ^ 62 → readVarint (encode v ++ rest) ≡ Value v (lenOf v)
@@ -97,8 +96,8 @@ same-power : (i j : ℕ) → 2 ^ i ≡ 2 ^ j → i ≡ j
 same-power i j e =
     ⊎-elim
     (λ l. let z : ⊥ = omega (arith, pow-lt l) in absurd z)
-    (λ l. ⊎-elim (λ k. let z : ⊥ = omega (arith, pow-lt k) in absurd z) (λ k. omega arith) (order j i))
-    (order i j)
+    (λ l. ⊎-elim (λ k. let z : ⊥ = omega (arith, pow-lt k) in absurd z) (λ k. omega arith) (split j i))
+    (split i j)
 
 -- The number that n + 1 bytes hold, top two bits and all.
 abbrev num : List ℕ → ℕ → ℕ
@@ -145,7 +144,7 @@ module _ (s : List ℕ) (h : (k : ℕ) → getD s k 0 < 256) where
       let d : v ≡ digits s (2 ^ k - 1) = cc (reads-value s l) in
       let f = form-of k refl l in
       (k, (rw d (f .0), (w, rw (w, d) (f .1)))))
-      (order (length s) (width (getD s 0 0)))
+      (split (length s) (width (getD s 0 0)))
 
   -- What is read in its shortest length is what is written.
   pub shortest : (v n : ℕ) → readVarint s ≡ Value v n → n ≡ lenOf v → take n s ≡ encode v

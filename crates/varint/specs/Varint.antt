@@ -8,6 +8,7 @@ use mathlib.Core.Bool.{cond}
 use lib.ListN.{length, getD, drop}
 use lib.Dec.{ltb, leb}
 use Rattle.answers.specs.Answers.{SHORT, RANGE, ROOM}
+use Rattle.big_endian.specs.Bytes.{bytes}
 use Rattle.varint.specs.declared.Got.{Got}
 use Rattle.varint.specs.declared.Got.the-variants as got
 use Rattle.varint.specs.declared.Wrote.{Wrote}
@@ -41,11 +42,6 @@ sound s (got.Refused w) = Unit
 abbrev pub soundAt : List ℕ → ℕ → Got → Type 0
 soundAt s at (got.Value v n) = (v < 2 ^ 62) × ((1 ≤ n) × (at + n ≤ length s))
 soundAt s at (got.Refused w) = Unit
-
--- The n bytes of x, the most significant first.
-abbrev pub bytes : ℕ → ℕ → List ℕ
-bytes zero x = []
-bytes (suc n) x = bytes n (x / 256) ++ (x % 256 ∷ [])
 
 -- The logarithm of the shortest length that holds v, below 2 ^ 62: 6, 14, 30 or 62 bits are usable.
 unfoldable pub logOf : ℕ → ℕ

@@ -2,9 +2,8 @@
 // whatever length it has, and is written in its shortest.
 ghost use mathlib.Core.Path.{_≡_};
 ghost use Prim.Native.Nat.{_≤_, _<_, _^_};
-ghost use mathlib.Core.List.{_++_};
 ghost use lib.ListN.{length, drop};
-ghost use Rattle.varint.specs.Varint.{width, readVarint, readAt, sound, soundAt, bytes, sizeOf, marked, done, writeVarint};
+ghost use Rattle.varint.specs.Varint.{width, readVarint, readAt, sound, soundAt, sizeOf, marked, done, writeVarint};
 
 // What reading finds: a value with the number of bytes that it took, or why there is none.
 pub enum Got {
@@ -69,20 +68,6 @@ pub fn read_at(s: &[u8], at: usize) -> Got
     read(&s[at..])
 }
 
-// Writes the n bytes of x at the start of out.
-fn put(out: &mut [u8], n: usize, x: u64)
-    requires { ⌜ n ≤ length (now out) ⌝ }
-    ensures { λ r. ⌜ now (out .exit) ≡ bytes n x ++ drop n (now (out .entry)) ⌝ }
-{
-    let mut i = n;
-    let mut rest = x;
-    while 0 < i {
-        i -= 1;
-        out[i] = (rest % 256) as u8;
-        rest = rest / 256;
-    }
-}
-
 // How many bytes the shortest form of v has; 0 where v is too large to be a varint.
 pub fn size(v: u64) -> usize
     ensures { λ r. ⌜ r ≡ sizeOf v ⌝ }
@@ -127,6 +112,6 @@ pub fn write(out: &mut [u8], v: u64) -> Wrote
     if out.len() < n {
         return Wrote::Refused(answers::ROOM);
     }
-    put(out, n, mark(v));
+    big_endian::put(out, n, mark(v));
     Wrote::Len(n)
 }

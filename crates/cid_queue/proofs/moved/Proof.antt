@@ -13,15 +13,15 @@ returns c = search (needs, moves)
 slot-requires : tie.Need-slot-requires
 slot-requires c κs = search needs
 
-add-lesser : tie.Need-add-lesser
-add-lesser c = search needs
+add-least : tie.Need-add-least
+add-least c = search needs
 
-lesser-requires : tie.Need-lesser-requires
-lesser-requires c κs = search needs
+least-requires : tie.Need-least-requires
+least-requires c κs = search needs
 
 returns-2 : tie.Need-returns-2
 returns-2 c = search (needs, moves)
 
 pub moved-spec : {M : Type 1} → statement M
 moved-spec =
-    tie.close (tie.spec refuse-requires returns slot-requires add-lesser lesser-requires returns-2)
+    tie.close (tie.spec refuse-requires returns slot-requires add-least least-requires returns-2)

@@ -1,6 +1,6 @@
 -- Each return is one case of the definition; the bytes are those of the marked number.
 use native.Mathlib.Omega.{arith}
-use Rattle.varint.proofs.Laws.{writes-range, writes-room, writes-len}
+use Rattle.varint.proofs.Laws.{writes-range, writes-room, writes-put}
 use borrow.Author.Needs.{needs}
 use Rattle.varint.proofs.write.Statement.{statement}
 use Rattle.varint.proofs.write.Tie as tie
@@ -24,10 +24,7 @@ same-length : tie.Need-same-length
 same-length c = search needs
 
 returns-3 : tie.Need-returns-3
-returns-3 c =
-    let a = c .before .before .before .before .before .before .before .before .before .args in
-    let w = writes-len (a .v) (a .out .now) (omega arith) (c .before .before .before .before .before .before .size .ensures) (omega arith) in
-    cc
+returns-3 c = search (needs, writes-put)
 
 pub write-spec : {M : Type 1} → statement M
 write-spec =

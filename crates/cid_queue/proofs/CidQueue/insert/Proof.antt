@@ -25,8 +25,8 @@ refuse-requires-3 c κs = search needs
 returns-3 : tie.Need-returns-3
 returns-3 c = search (needs, takings, inserts)
 
-greater-requires : tie.Need-greater-requires
-greater-requires c κs = search needs
+most-requires : tie.Need-most-requires
+most-requires c κs = search needs
 
 add-if4 : tie.Need-add-if4
 add-if4 c = search (needs, takings, inserts)
@@ -57,7 +57,7 @@ insert-spec =
     returns-2
     refuse-requires-3
     returns-3
-    greater-requires
+    most-requires
     add-if4
     refuse-requires-4
     returns-4

@@ -25,11 +25,11 @@ returns c = search (needs, five, retired-none)
 vacant-requires : tie.Need-vacant-requires Inv-loop μ-loop
 vacant-requires c κs = search needs
 
-sub-lesser : tie.Need-sub-lesser Inv-loop μ-loop
-sub-lesser c = search needs
+sub-least : tie.Need-sub-least Inv-loop μ-loop
+sub-least c = search needs
 
-lesser-requires : tie.Need-lesser-requires Inv-loop μ-loop
-lesser-requires c κs = search needs
+least-requires : tie.Need-least-requires Inv-loop μ-loop
+least-requires c κs = search needs
 
 add-past : tie.Need-add-past Inv-loop μ-loop
 add-past c = search needs
@@ -64,4 +64,4 @@ returns-2 c =
     ap (λ (l : List Slot). closed l to) f ∙ below-all q to (omega arith)
 
 pub retire-spec : {M : Type 1} → statement M
-retire-spec = tie.close (tie.spec Inv-loop μ-loop returns vacant-requires sub-lesser lesser-requires add-past loop-holds mul-slots array-set-from-slots add-at loop-less loop-again returns-2)
+retire-spec = tie.close (tie.spec Inv-loop μ-loop returns vacant-requires sub-least least-requires add-past loop-holds mul-slots array-set-from-slots add-at loop-less loop-again returns-2)

@@ -1,14 +1,14 @@
--- What is left to write and what is written make up the whole: one byte a turn, the last first.
+-- `big_endian::fill` meets its contract. What is left to write and what is written make up the whole: one byte a turn, the last first.
 use borrow.Author.Needs.{needs}
 use Prim.Native.Nat.{ℕ, _≤_, _-_}
 use mathlib.Core.Path.{_≡_, ap, sym, _∙_}
 use mathlib.Core.List.{_++_}
 use lib.ListN.{length, drop, length-set}
 use native.Mathlib.Omega.{arith}
-use Rattle.varint.specs.Varint.{bytes}
-use Rattle.varint.proofs.Laws.{bytes-step}
-use Rattle.varint.proofs.put.Statement.{statement}
-use Rattle.varint.proofs.put.Tie as tie
+use Rattle.big_endian.specs.Bytes.{bytes}
+use Rattle.big_endian.proofs.Laws.{bytes-step}
+use Rattle.big_endian.proofs.fill.Statement.{statement}
+use Rattle.big_endian.proofs.fill.Tie as tie
 
 abbrev Inv-loop : tie.InvT-loop
 Inv-loop out₀ n x i₀ rest₀ out i rest = (i ≤ length out) × ((length out ≡ length out₀) × (bytes i rest ++ drop i out ≡ bytes n x ++ drop n out₀))
@@ -45,8 +45,8 @@ returns c =
     let e : l .i ≡ 0 = omega arith in
     sym (ap (λ (k : ℕ). bytes k (l .rest) ++ drop k (l .out)) e) ∙ l .inv .1 .1
 
-pub put-spec : {M : Type 1} → statement M
-put-spec =
+pub fill-spec : {M : Type 1} → statement M
+fill-spec =
     tie.close
     (tie.spec
     Inv-loop
