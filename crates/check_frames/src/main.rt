@@ -15,7 +15,7 @@ fn wide(n: usize) -> u64 {
 // The line of a frame: into a list of 64 ranges.
 fn show(frame: &[u8], list: &mut [u64], out: &mut [u8; 65536], at: &mut usize) {
     let a = ack_frame::read(frame, list);
-    say::answer(out, at, a.answer);
+    say_answer::name(out, at, a.answer);
     if a.answer == answers::OK {
         out::text(out, at, b" taken");
         say::value(out, at, wide(a.taken));
@@ -66,36 +66,24 @@ fn turn(
     k.feed = feed;
     let mut at = k.at;
     let kind = feed.kind;
-    match kind {
-        lines::LINE => {
-            check(
-                lines::line(buf, feed),
-                feed.number,
-                frame,
-                list,
-                out,
-                &mut at,
-            );
-            k.at = at;
-            k
-        }
-        lines::LONG => {
-            say::error(
-                out,
-                &mut at,
-                feed.number,
-                b"a line of more than 65000 bytes",
-            );
-            k.at = at;
-            k
-        }
-        lines::FAILED => {
-            say::error(out, &mut at, feed.number, b"the input cannot be read on");
-            k.at = at;
-            k
-        }
-        _ => k,
+    if kind == lines::LINE {
+        check(
+            lines::line(buf, feed),
+            feed.number,
+            frame,
+            list,
+            out,
+            &mut at,
+        );
     }
+    if kind == lines::LONG {
+        say::unread(out, &mut at, feed.number, true);
+    }
+    if kind == lines::FAILED {
+        say::unread(out, &mut at, feed.number, false);
+    }
+    k.at = at;
+    k
 }
 
 // A proved loop has to end, and nothing says that the input does: the turns count down from a number that no run uses up.

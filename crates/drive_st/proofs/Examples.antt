@@ -7,7 +7,7 @@ use Prim.Native.Nat.{ℕ, _+_, _^_}
 use borrow.Author.Tests.{ne-eqb}
 use Rattle.answers.specs.Answers.{OK, RANGE, FULL, ORDER}
 use Rattle.codes.specs.Codes.{ST_DATA, ST_RESET, ST_STOP, ST_READ, ST_SEEN, ST_ANNOUNCE, ST_SENT, ST_OPEN, ST_WANT, ST_MAXSTREAMS, ST_CREDIT, ST_ZREJ, ST_WINDOW, ST_NEW}
-use Rattle.said.specs.Said.{saidPlain, saidNumber, saidTwo, saidThree}
+use Rattle.said.specs.Said.{saidPlain}
 use Rattle.stream_conn.specs.declared.Conn.{Conn}
 use Rattle.stream_conn.specs.declared.Done.{Done}
 use Rattle.stream_conn.specs.Books.{newDone, creditDone, windowDone, maxDone, goodConn, goodCounts, admitted}
@@ -16,7 +16,9 @@ use Rattle.stream_places.specs.Places.{freeAfter, grantAfter, wanted, wantAfter
 use Rattle.stream_table.specs.Table.{soundB, goodRec, goodNumbers, records, theirs, inserted}
 use Rattle.drive_st.specs.declared.Kept.{Kept}
 use Rattle.drive_st.specs.declared.Gave.{Gave}
-use Rattle.drive_st.specs.Step.{Stepped, done, at, stayed, noBooks, begun, startable, grantedBy, startOf, freshOf, newOf, valuesOf, dataOf, callOf, settledOf, oneOf, openedBy, changedBy, flowOf, flowedBy, wholeOf, stepOf}
+use Rattle.st_new.specs.New.{startable, startOf}
+use Rattle.st_call.specs.Call.{at, dataOf, callOf}
+use Rattle.drive_st.specs.Step.{Stepped, done, stayed, noBooks, begun, grantedBy, freshOf, newOf, settledOf, oneOf, openedBy, changedBy, flowOf, flowedBy, wholeOf, stepOf}
 
 -- books
 abbrev held : Conn → ℕ → Kept
@@ -87,24 +89,6 @@ at-new ns l k = refl
 pub before-new : (code : ℕ) (ns l : List ℕ) → (code ≡ ST_NEW → ⊥) → stepOf code ns l (begun .kept) ≡ done (stayed ORDER (begun .kept)) l
 unfolding stepOf
 before-new code ns l e = rw (ne-eqb code ST_NEW e)
-
--- what each event on a stream shows
-module _ (d : Done) where
-  pub shows-data : valuesOf ST_DATA d ≡ saidTwo (d .answer) (d .charge) (d .credit)
-  unfolding valuesOf
-  shows-data = refl
-
-  pub shows-stop : valuesOf ST_STOP d ≡ saidThree (d .answer) (d .charge) (d .credit) (d .value)
-  unfolding valuesOf
-  shows-stop = refl
-
-  pub shows-read : valuesOf ST_READ d ≡ saidNumber (d .answer) (d .credit)
-  unfolding valuesOf
-  shows-read = refl
-
-  pub shows-sent : valuesOf ST_SENT d ≡ saidPlain (d .answer)
-  unfolding valuesOf
-  shows-sent = refl
 
 -- a server that wants one stream both ways and one one way, on a table of two places: the client's streams 0 and 2 are granted
 abbrev room : List ℕ

@@ -3,20 +3,22 @@
 use mathlib.Core.Path.{_≡_, refl, ap, sym, _∙_}
 use mathlib.Core.Bool.{Bool, true, false, cond, not}
 use mathlib.Core.List.{List}
-use Prim.Native.Nat.{ℕ, _+_, _^_, _≤_, _<_}
+use Prim.Native.Nat.{ℕ, _≤_, _<_}
 use lib.Dec.{eqb, ltb, leb}
-use borrow.Author.Tests.{lt-ltb, le-ltb, le-leb, lt-leb, eq-eqb, ne-eqb, not-true, not-false}
+use borrow.Author.Tests.{le-leb, lt-leb, eq-eqb, ne-eqb, not-true, not-false}
 use Rattle.said.specs.declared.Said.{Said}
-use Rattle.said.specs.Said.{saidPlain, saidNumber, saidTwo, saidThree}
+use Rattle.said.specs.Said.{saidPlain, saidNumber}
 use Rattle.stream_conn.specs.declared.Conn.{Conn}
 use Rattle.stream_conn.specs.declared.Done.{Done}
-use Rattle.stream_conn.specs.Books.{refusedDone, newDone, creditDone, windowDone, maxDone}
-use Rattle.streams.specs.Calls.{After, after, dataAfter, resetAfter, stopAfter, readAfter, seenAfter, announceAfter, sentAfter}
+use Rattle.stream_conn.specs.Books.{newDone, creditDone, windowDone, maxDone}
+use Rattle.streams.specs.Calls.{After, after}
 use Rattle.stream_places.specs.declared.Changed.{Changed}
 use Rattle.stream_places.specs.Places.{Grown, grown, wantAfter, freeAfter, openAfter, rejectAfter}
+use Rattle.st_new.specs.New.{startable, startOf}
+use Rattle.st_call.specs.Call.{at, valuesOf, callOf}
 use Rattle.drive_st.specs.declared.Kept.{Kept}
 use Rattle.drive_st.specs.declared.Gave.{Gave}
-use Rattle.drive_st.specs.Step.{Stepped, done, at, gave, stayed, noBooks, begun, startable, grantedBy, thenUni, startOf, freshOf, newOf, valuesOf, dataOf, callOf, freedBy, settledOf, oneOf, openedBy, changedBy, flowOf, flowedBy, wholeOf, stepOf}
+use Rattle.drive_st.specs.Step.{Stepped, done, gave, stayed, noBooks, begun, grantedBy, freshOf, newOf, freedBy, settledOf, oneOf, openedBy, changedBy, flowOf, flowedBy, wholeOf, stepOf}
 
 -- ---- before the first event
 pub none-is : {d : Done} → d ≡ newDone 0 0 0 → record { has = false; conn = d .conn; count = 0 } ≡ noBooks
@@ -32,88 +34,21 @@ begin-is e eg = rw e at eg
 pub ruleset begins = (none-is, stay-is, begin-is)
 
 -- ---- st.new
-pub then-is : {w : Grown} {x : Changed} {l : List ℕ} {s : Said} {g : Gave} → grown x l ≡ w → s ≡ saidPlain (x .answer) → g ≡ gave s false 0 (x .conn) (x .count) → done g l ≡ grantedBy w
-unfolding grantedBy
-then-is ex es eg = rw (eg, es) (ap grantedBy ex)
-
-pub start-is : (c : Conn) (l : List ℕ) (bi uni : ℕ) {x : Changed} {l′ : List ℕ} {y : Stepped}
-    → grown x l′ ≡ wantAfter c l 0 0 bi → y ≡ grantedBy (wantAfter (x .conn) l′ (x .count) 1 uni) → y ≡ startOf c l bi uni
-unfolding startOf
-start-is c l bi uni ex ey = ey ∙ ap (thenUni uni) ex
-
-module _ (a bi uni : ℕ) where
-  pub startable-not : (a ≡ 0 → ⊥) → a ≡ startable a bi uni
-  unfolding startable
-  startable-not z = rw (ne-eqb a 0 z)
-
-  pub startable-bi : a ≡ 0 → 2 ^ 60 < bi → 2 ≡ startable a bi uni
-  unfolding startable
-  startable-bi z h = rw (eq-eqb a 0 z, lt-ltb (2 ^ 60) bi h)
-
-  pub startable-uni : a ≡ 0 → bi ≤ 2 ^ 60 → 2 ^ 60 < uni → 2 ≡ startable a bi uni
-  unfolding startable
-  startable-uni z h i = rw (eq-eqb a 0 z, le-ltb (2 ^ 60) bi h, lt-ltb (2 ^ 60) uni i)
-
-  pub startable-full : a ≡ 0 → bi ≤ 2 ^ 60 → uni ≤ 2 ^ 60 → 256 < bi + uni → 5 ≡ startable a bi uni
-  unfolding startable
-  startable-full z h i f = rw (eq-eqb a 0 z, le-ltb (2 ^ 60) bi h, le-ltb (2 ^ 60) uni i, lt-ltb 256 (bi + uni) f)
-
-  pub startable-yes : a ≡ 0 → bi ≤ 2 ^ 60 → uni ≤ 2 ^ 60 → bi + uni ≤ 256 → 0 ≡ startable a bi uni
-  unfolding startable
-  startable-yes z h i f = rw (eq-eqb a 0 z, le-ltb (2 ^ 60) bi h, le-ltb (2 ^ 60) uni i, le-ltb 256 (bi + uni) f)
-
-pub ruleset startables = (startable-not, startable-bi, startable-uni, startable-full, startable-yes)
-
 module _ (d : Done) (l : List ℕ) (k : Kept) (bi uni : ℕ) {a : ℕ} (ea : a ≡ startable (d .answer) bi uni) where
   pub fresh-not : {g : Gave} → (a ≡ 0 → ⊥) → g ≡ stayed a k → done g l ≡ freshOf d l k bi uni
   unfolding freshOf
   fresh-not z eg = rw (eg, ← ea, ne-eqb a 0 z)
 
-  pub fresh-start : {y : Stepped} → a ≡ 0 → y ≡ startOf (d .conn) l bi uni → y ≡ freshOf d l k bi uni
-  unfolding freshOf
-  fresh-start z ey = rw (← ea, eq-eqb a 0 z) ey
+  pub fresh-start : {x : Changed} {l′ : List ℕ} {s : Said} {g : Gave}
+      → a ≡ 0 → grown x l′ ≡ startOf (d .conn) l bi uni → s ≡ saidPlain (x .answer) → g ≡ gave s false 0 (x .conn) (x .count) → done g l′ ≡ freshOf d l k bi uni
+  unfolding freshOf grantedBy
+  fresh-start z ex es eg = rw (eg, es, ← ea, eq-eqb a 0 z) (ap grantedBy ex)
 
 pub new-is : (ns l : List ℕ) (k : Kept) {d : Done} {y : Stepped} → d ≡ newDone (at ns 0) (at ns 3) (at ns 4) → y ≡ freshOf d l k (at ns 1) (at ns 2) → y ≡ newOf ns l k
 unfolding newOf
 new-is ns l k ed ey = ey ∙ ap (λ (d : Done). freshOf d l k (at ns 1) (at ns 2)) ed
 
-pub ruleset news = (then-is, start-is, fresh-not, fresh-start, new-is)
-
--- ---- the values that an event shows
-module _ (code : ℕ) (d : Done) {s : Said} where
-  pub values-data : code ≡ 160 → s ≡ saidTwo (d .answer) (d .charge) (d .credit) → s ≡ valuesOf code d
-  unfolding valuesOf
-  values-data e es = rw e es
-
-  pub values-reset : code ≡ 161 → s ≡ saidTwo (d .answer) (d .charge) (d .credit) → s ≡ valuesOf code d
-  unfolding valuesOf
-  values-reset e es = rw e es
-
-  pub values-stop : code ≡ 162 → s ≡ saidThree (d .answer) (d .charge) (d .credit) (d .value) → s ≡ valuesOf code d
-  unfolding valuesOf
-  values-stop e es = rw e es
-
-  pub values-read : code ≡ 163 → s ≡ saidNumber (d .answer) (d .credit) → s ≡ valuesOf code d
-  unfolding valuesOf
-  values-read e es = rw e es
-
-  pub values-seen : code ≡ 164 → s ≡ saidNumber (d .answer) (d .value) → s ≡ valuesOf code d
-  unfolding valuesOf
-  values-seen e es = rw e es
-
-  pub values-announce : code ≡ 165 → s ≡ saidNumber (d .answer) (d .value) → s ≡ valuesOf code d
-  unfolding valuesOf
-  values-announce e es = rw e es
-
-  pub values-window : code ≡ 172 → s ≡ saidNumber (d .answer) (d .value) → s ≡ valuesOf code d
-  unfolding valuesOf
-  values-window e es = rw e es
-
-  pub values-rest : (code ≡ 160 → ⊥) → (code ≡ 161 → ⊥) → (code ≡ 162 → ⊥) → (code ≡ 163 → ⊥) → (code ≡ 164 → ⊥) → (code ≡ 165 → ⊥) → (code ≡ 172 → ⊥) → s ≡ saidPlain (d .answer) → s ≡ valuesOf code d
-  unfolding valuesOf
-  values-rest e0 e1 e2 e3 e4 e5 e6 es = rw (ne-eqb code 160 e0, ne-eqb code 161 e1, ne-eqb code 162 e2, ne-eqb code 163 e3, ne-eqb code 164 e4, ne-eqb code 165 e5, ne-eqb code 172 e6) es
-
-pub ruleset values = (values-data, values-reset, values-stop, values-read, values-seen, values-announce, values-window, values-rest)
+pub ruleset news = (fresh-not, fresh-start, new-is)
 
 -- ---- a place given back
 module _ (code : ℕ) (d : Done) (l : List ℕ) (n id : ℕ) {s : Said} (es : s ≡ valuesOf code d) {g : Gave} where
@@ -127,49 +62,7 @@ module _ (code : ℕ) (d : Done) (l : List ℕ) (n id : ℕ) {s : Said} (es : s 
 
 pub ruleset settles = (settled-free, settled-not)
 
--- ---- the call of an event that names a stream
-module _ (ns : List ℕ) (c : Conn) (l : List ℕ) (n : ℕ) where
-  pub data-fin : {r : Done} → 1 < at ns 3 → r ≡ refusedDone c 2 → after r l ≡ dataOf ns c l n
-  unfolding dataOf
-  data-fin h er = rw (er, lt-ltb 1 (at ns 3) h)
-
-  pub data-call : {y : After} → at ns 3 ≤ 1 → y ≡ dataAfter c l n (at ns 0) (at ns 1) (at ns 2) (eqb (at ns 3) 1) → y ≡ dataOf ns c l n
-  unfolding dataOf
-  data-call h ey = rw (le-ltb 1 (at ns 3) h) ey
-
-pub ruleset datas = (data-fin, data-call)
-
-module _ (code : ℕ) (ns : List ℕ) (c : Conn) (l : List ℕ) (n : ℕ) {y : After} where
-  pub call-data : code ≡ 160 → y ≡ dataOf ns c l n → y ≡ callOf code ns c l n
-  unfolding callOf
-  call-data e ey = rw e ey
-
-  pub call-reset : code ≡ 161 → y ≡ resetAfter c l n (at ns 0) (at ns 1) → y ≡ callOf code ns c l n
-  unfolding callOf
-  call-reset e ey = rw e ey
-
-  pub call-stop : code ≡ 162 → y ≡ stopAfter c l n (at ns 0) → y ≡ callOf code ns c l n
-  unfolding callOf
-  call-stop e ey = rw e ey
-
-  pub call-read : code ≡ 163 → y ≡ readAfter c l n (at ns 0) (at ns 1) → y ≡ callOf code ns c l n
-  unfolding callOf
-  call-read e ey = rw e ey
-
-  pub call-seen : code ≡ 164 → y ≡ seenAfter c l n (at ns 0) → y ≡ callOf code ns c l n
-  unfolding callOf
-  call-seen e ey = rw e ey
-
-  pub call-announce : code ≡ 165 → y ≡ announceAfter c l n (at ns 0) → y ≡ callOf code ns c l n
-  unfolding callOf
-  call-announce e ey = rw e ey
-
-  pub call-sent : (code ≡ 160 → ⊥) → (code ≡ 161 → ⊥) → (code ≡ 162 → ⊥) → (code ≡ 163 → ⊥) → (code ≡ 164 → ⊥) → (code ≡ 165 → ⊥) → y ≡ sentAfter c l n (at ns 0) → y ≡ callOf code ns c l n
-  unfolding callOf
-  call-sent e0 e1 e2 e3 e4 e5 ey = rw (ne-eqb code 160 e0, ne-eqb code 161 e1, ne-eqb code 162 e2, ne-eqb code 163 e3, ne-eqb code 164 e4, ne-eqb code 165 e5) ey
-
-pub ruleset calls = (call-data, call-reset, call-stop, call-read, call-seen, call-announce, call-sent)
-
+-- ---- an event that names a stream
 pub one-is : (code : ℕ) (ns : List ℕ) (c : Conn) (l : List ℕ) (n : ℕ) {d : Done} {l′ : List ℕ} {y : Stepped}
     → after d l′ ≡ callOf code ns c l n → y ≡ settledOf code d l′ n (at ns 0) → y ≡ oneOf code ns c l n
 unfolding oneOf

@@ -1,20 +1,20 @@
 -- What an event of streams and bytes does: each is its library's call (docs/EVENTS.md), by the names of the codes. The words of the line are the numbers
 -- `ns`, in its order; the books are the connection, the table's words `l` and its count `n`.
 -- Assumes nothing.
-use Prim.Native.Nat.{ℕ, _+_, _^_}
+use Prim.Native.Nat.{ℕ}
 use mathlib.Core.Bool.{Bool, true, false, cond}
 use mathlib.Core.List.{List}
-use lib.Dec.{eqb, ltb, leb}
-use lib.ListN.{getD}
-use Rattle.answers.specs.Answers.{OK, RANGE, FULL, ORDER}
-use Rattle.codes.specs.Codes.{ST_DATA, ST_RESET, ST_STOP, ST_READ, ST_SEEN, ST_ANNOUNCE, ST_SENT, ST_OPEN, ST_WANT, ST_MAXSTREAMS, ST_CREDIT, ST_ZREJ, ST_WINDOW, ST_NEW}
+use lib.Dec.{eqb, leb}
+use Rattle.answers.specs.Answers.{OK, ORDER}
+use Rattle.codes.specs.Codes.{ST_SENT, ST_OPEN, ST_WANT, ST_MAXSTREAMS, ST_CREDIT, ST_ZREJ, ST_NEW}
 use Rattle.said.specs.declared.Said.{Said}
-use Rattle.said.specs.Said.{saidPlain, saidNumber, saidTwo, saidThree}
+use Rattle.said.specs.Said.{saidPlain, saidNumber}
 use Rattle.stream_conn.specs.declared.Conn.{Conn}
 use Rattle.stream_conn.specs.declared.Done.{Done}
 use Rattle.stream_conn.specs.Books.{freshConn, newDone, creditDone, windowDone, maxDone}
-use Rattle.streams.specs.Calls.{After, refused, dataAfter, resetAfter, stopAfter, readAfter, seenAfter, announceAfter, sentAfter}
 use Rattle.stream_places.specs.Places.{Grown, wantAfter, freeAfter, openAfter, rejectAfter}
+use Rattle.st_new.specs.New.{startable, startOf}
+use Rattle.st_call.specs.Call.{at, valuesOf, callOf}
 use Rattle.drive_st.specs.declared.Kept.{Kept}
 use Rattle.drive_st.specs.declared.Gave.{Gave}
 
@@ -25,10 +25,6 @@ pub record Stepped : Type 0 where
 
 abbrev pub done : Gave → List ℕ → Stepped
 done g l = record { out = g; words = l }
-
--- the number at place i of the line
-abbrev pub at : List ℕ → ℕ → ℕ
-at ns i = getD ns i 0
 
 -- ---- what an event gave
 -- the books after an event; where `about`, it named the stream id
@@ -48,56 +44,18 @@ abbrev pub begun : Gave
 begun = stayed OK noBooks
 
 -- ---- st.new SIDE BI UNI WINDOW STREAM_WINDOW
--- a refusal of the connection record; a number of streams past 2^60 is RANGE, more than the table has places FULL
-unfoldable pub startable : ℕ → ℕ → ℕ → ℕ
-startable a bi uni =
-    cond (eqb a OK) (cond (ltb (2 ^ 60) bi) RANGE (cond (ltb (2 ^ 60) uni) RANGE (cond (ltb 256 (bi + uni)) FULL OK))) a
-
+-- what is granted at the start, or why it cannot be
 unfoldable pub grantedBy : Grown → Stepped
 grantedBy g = done (gave (saidPlain (g .out .answer)) false 0 (g .out .conn) (g .out .count)) (g .words)
 
--- the peer's streams both ways are granted first, then those one way
-abbrev pub thenUni : ℕ → Grown → Stepped
-thenUni uni g = grantedBy (wantAfter (g .out .conn) (g .words) (g .out .count) 1 uni)
-
-unfoldable pub startOf : Conn → List ℕ → ℕ → ℕ → Stepped
-startOf c l bi uni = thenUni uni (wantAfter c l 0 0 bi)
-
 unfoldable pub freshOf : Done → List ℕ → Kept → ℕ → ℕ → Stepped
 freshOf d l k bi uni =
-    cond (eqb (startable (d .answer) bi uni) OK) (startOf (d .conn) l bi uni) (done (stayed (startable (d .answer) bi uni) k) l)
+    cond (eqb (startable (d .answer) bi uni) OK) (grantedBy (startOf (d .conn) l bi uni)) (done (stayed (startable (d .answer) bi uni) k) l)
 
 unfoldable pub newOf : List ℕ → List ℕ → Kept → Stepped
 newOf ns l k = freshOf (newDone (at ns 0) (at ns 3) (at ns 4)) l k (at ns 1) (at ns 2)
 
--- ---- the values that an event shows
-unfoldable pub valuesOf : ℕ → Done → Said
-valuesOf code d =
-    cond (eqb code ST_DATA) (saidTwo (d .answer) (d .charge) (d .credit))
-    (cond (eqb code ST_RESET) (saidTwo (d .answer) (d .charge) (d .credit))
-    (cond (eqb code ST_STOP) (saidThree (d .answer) (d .charge) (d .credit) (d .value))
-    (cond (eqb code ST_READ) (saidNumber (d .answer) (d .credit))
-    (cond (eqb code ST_SEEN) (saidNumber (d .answer) (d .value))
-    (cond (eqb code ST_ANNOUNCE) (saidNumber (d .answer) (d .value))
-    (cond (eqb code ST_WINDOW) (saidNumber (d .answer) (d .value))
-    (saidPlain (d .answer))))))))
-
 -- ---- the events that name a stream
--- st.data ID OFFSET LEN FIN: FIN is 0 or 1
-unfoldable pub dataOf : List ℕ → Conn → List ℕ → ℕ → After
-dataOf ns c l n = cond (ltb 1 (at ns 3)) (refused c l RANGE) (dataAfter c l n (at ns 0) (at ns 1) (at ns 2) (eqb (at ns 3) 1))
-
--- each is a call of streams; the last is st.sent
-unfoldable pub callOf : ℕ → List ℕ → Conn → List ℕ → ℕ → After
-callOf code ns c l n =
-    cond (eqb code ST_DATA) (dataOf ns c l n)
-    (cond (eqb code ST_RESET) (resetAfter c l n (at ns 0) (at ns 1))
-    (cond (eqb code ST_STOP) (stopAfter c l n (at ns 0))
-    (cond (eqb code ST_READ) (readAfter c l n (at ns 0) (at ns 1))
-    (cond (eqb code ST_SEEN) (seenAfter c l n (at ns 0))
-    (cond (eqb code ST_ANNOUNCE) (announceAfter c l n (at ns 0))
-    (sentAfter c l n (at ns 0)))))))
-
 -- a stream whose halves are both over gives its place back before the line is printed
 abbrev pub freedBy : Said → ℕ → Grown → Stepped
 freedBy s id g = done (gave s true id (g .out .conn) (g .out .count)) (g .words)

@@ -58,41 +58,32 @@ fn turn(
     r.feed = feed;
     let mut at = r.at;
     let kind = feed.kind;
-    match kind {
-        lines::LINE => {
-            let s = answer(
-                lines::line(buf, feed),
-                feed.number,
-                r.state,
-                numbers,
-                bytes,
-                scratch,
-                memory,
-                list,
-                out,
-                &mut at,
-            );
-            r.state = s;
-            r.at = at;
-            r
-        }
-        lines::LONG => {
-            say::error(
-                out,
-                &mut at,
-                feed.number,
-                b"a line of more than 65000 bytes",
-            );
-            r.at = at;
-            r
-        }
-        lines::FAILED => {
-            say::error(out, &mut at, feed.number, b"the file cannot be read on");
-            r.at = at;
-            r
-        }
-        _ => r,
+    if kind == lines::LINE {
+        let line = lines::line(buf, feed);
+        let number = feed.number;
+        let state = r.state;
+        let s = answer(
+            line,
+            number,
+            state,
+            numbers,
+            bytes,
+            scratch,
+            memory,
+            list,
+            out,
+            &mut at,
+        );
+        r.state = s;
     }
+    if kind == lines::LONG {
+        say::unread(out, &mut at, feed.number, true);
+    }
+    if kind == lines::FAILED {
+        say::unread(out, &mut at, feed.number, false);
+    }
+    r.at = at;
+    r
 }
 
 // A proved loop has to end, and nothing says that a file does: the turns count down from a number that no run uses up.

@@ -1,25 +1,5 @@
-// What the programs print of an answer: its number and name, values, ranges, byte strings, and the line for what is no event (docs/EVENTS.md).
+// What the programs print of an answer: its values, ranges, byte strings, and the line for what is no event (docs/EVENTS.md).
 use said::Said;
-
-// An answer's number and name.
-pub fn answer(buf: &mut [u8; 65536], at: &mut usize, answer: u8) {
-    match answer {
-        answers::OK => out::text(buf, at, b"0 OK"),
-        answers::SHORT => out::text(buf, at, b"1 SHORT"),
-        answers::RANGE => out::text(buf, at, b"2 RANGE"),
-        answers::MALFORMED => out::text(buf, at, b"3 MALFORMED"),
-        answers::KIND => out::text(buf, at, b"4 KIND"),
-        answers::FULL => out::text(buf, at, b"5 FULL"),
-        answers::ORDER => out::text(buf, at, b"6 ORDER"),
-        answers::FLOW => out::text(buf, at, b"7 FLOW"),
-        answers::FINAL => out::text(buf, at, b"8 FINAL"),
-        answers::LIMIT => out::text(buf, at, b"9 LIMIT"),
-        answers::STATE => out::text(buf, at, b"10 STATE"),
-        answers::ROOM => out::text(buf, at, b"11 ROOM"),
-        answers::RETIRED => out::text(buf, at, b"12 RETIRED"),
-        _ => out::text(buf, at, b"??"),
-    }
-}
 
 // A space and a number.
 pub fn value(buf: &mut [u8; 65536], at: &mut usize, n: u64) {
@@ -33,6 +13,16 @@ pub fn named(buf: &mut [u8; 65536], at: &mut usize, name: &[u8], n: u64) {
     out::number(buf, at, n);
 }
 
+// A name and its number, `-` where there is none.
+pub fn known(buf: &mut [u8; 65536], at: &mut usize, name: &[u8], known: bool, n: u64) {
+    out::text(buf, at, name);
+    if known {
+        out::number(buf, at, n);
+        return;
+    }
+    out::text(buf, at, b"-");
+}
+
 // A name and two numbers with a comma between.
 pub fn pair(buf: &mut [u8; 65536], at: &mut usize, name: &[u8], a: u64, b: u64) {
     named(buf, at, name, a);
@@ -41,7 +31,7 @@ pub fn pair(buf: &mut [u8; 65536], at: &mut usize, name: &[u8], a: u64, b: u64) 
 
 // An answer and its values; a refusal has none.
 pub fn all(buf: &mut [u8; 65536], at: &mut usize, s: Said) {
-    answer(buf, at, s.answer);
+    say_answer::name(buf, at, s.answer);
     if s.answer != answers::OK {
         return;
     }
@@ -106,4 +96,13 @@ pub fn error(buf: &mut [u8; 65536], at: &mut usize, number: u64, what: &[u8]) {
     out::text(buf, at, b": ");
     out::text(buf, at, what);
     end(buf, at);
+}
+
+// The line for a line that could not be taken in: it is too long, or the input ends in an error.
+pub fn unread(buf: &mut [u8; 65536], at: &mut usize, number: u64, long: bool) {
+    if long {
+        error(buf, at, number, b"a line of more than 65000 bytes");
+    } else {
+        error(buf, at, number, b"the input cannot be read on");
+    }
 }

@@ -19,7 +19,7 @@ fn show_token(token: &[u8; 16], buf: &mut [u8; 65536], at: &mut usize) {
 // The values: nothing, numbers and a token, a number and an id, or yes and no.
 fn show_values(g: Gave, buf: &mut [u8; 65536], at: &mut usize) {
     let said = g.said;
-    say::answer(buf, at, said.answer);
+    say_answer::name(buf, at, said.answer);
     if said.answer != answers::OK {
         return;
     }

@@ -15,7 +15,7 @@ pub fn window(n: Noted, buf: &mut [u8; 65536], at: &mut usize) {
 pub fn set(d: Did, code: u8, list: &[u64], parts: &[u64], buf: &mut [u8; 65536], at: &mut usize) {
     let said = d.said;
     if code == codes::RS_POP {
-        say::answer(buf, at, said.answer);
+        say_answer::name(buf, at, said.answer);
         if said.answer == answers::OK {
             say::range(buf, at, said.a, said.b);
         }

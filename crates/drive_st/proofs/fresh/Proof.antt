@@ -16,6 +16,12 @@ returns c = search (needs, news)
 start-requires : tie.Need-start-requires
 start-requires c κs = search needs
 
+plain-requires : tie.Need-plain-requires
+plain-requires c κs = search needs
+
+give-requires : tie.Need-give-requires
+give-requires c κs = search needs
+
 same-length : tie.Need-same-length
 same-length c = search needs
 
@@ -25,4 +31,12 @@ returns-2 c = search (needs, news)
 pub fresh-spec : {M : Type 1} → statement M
 fresh-spec =
     tie.close
-    (tie.spec startable-requires stay-requires returns start-requires same-length returns-2)
+    (tie.spec
+    startable-requires
+    stay-requires
+    returns
+    start-requires
+    plain-requires
+    give-requires
+    same-length
+    returns-2)

@@ -13,8 +13,8 @@ leaf-requires c κs = search needs
 returns-2 : tie.Need-returns-2
 returns-2 c = search (needs, laws)
 
-lists-requires : tie.Need-lists-requires
-lists-requires c κs = search needs
+step-requires : tie.Need-step-requires
+step-requires c κs = search needs
 
 returns-3 : tie.Need-returns-3
 returns-3 c = search (needs, laws)
@@ -25,8 +25,8 @@ leaf-requires-2 c κs = search needs
 returns-4 : tie.Need-returns-4
 returns-4 c = search (needs, laws)
 
-peers-requires : tie.Need-peers-requires
-peers-requires c κs = search needs
+step-requires-2 : tie.Need-step-requires-2
+step-requires-2 c κs = search needs
 
 returns-5 : tie.Need-returns-5
 returns-5 c = search (needs, laws)
@@ -38,9 +38,9 @@ step-spec =
     returns
     leaf-requires
     returns-2
-    lists-requires
+    step-requires
     returns-3
     leaf-requires-2
     returns-4
-    peers-requires
+    step-requires-2
     returns-5)

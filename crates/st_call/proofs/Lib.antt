@@ -1,0 +1,3 @@
+pub mod Determined
+pub mod Examples
+pub mod Laws
