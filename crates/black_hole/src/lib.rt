@@ -225,7 +225,7 @@ impl BlackHoleDetector {
         BlackHoleDetector {
             bursts: Bursts::none(),
             current,
-            post: pn,
+            post: pn, // what was lost before it is past
             acked: len,
             minimum: self.minimum,
         }

@@ -277,7 +277,7 @@ impl CidQueue {
     {
         let ring = self.ring;
         if !ring.sound() {
-            return no_entry(RANGE);
+            return no_entry(RANGE); // and not ORDER: there always is one
         }
         shown(ring, ring.offset)
     }
@@ -290,7 +290,7 @@ impl CidQueue {
         if !ring.sound() {
             return Number {
                 answer: RANGE,
-                seq: 0,
+                seq: 0, // a queue out of form has no number
             };
         }
         Number {

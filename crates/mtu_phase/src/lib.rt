@@ -111,7 +111,7 @@ impl Phase {
             Phase::Off => false,
             Phase::Initial => false,
             Phase::Searching(_) => true,
-            Phase::Complete(_) => false,
+            Phase::Complete(_) => false, // at rest
         }
     }
 
@@ -148,7 +148,7 @@ impl Phase {
     {
         match self {
             Phase::Off => true,
-            Phase::Initial => false,
+            Phase::Initial => false, // not begun
             Phase::Searching(_) => false,
             Phase::Complete(_) => false,
         }

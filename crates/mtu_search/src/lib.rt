@@ -179,9 +179,9 @@ impl SearchState {
             lower: self.lower,
             upper: self.upper,
             last: self.last,
-            flying: false,
+            flying: false, // it has come
             probe: 0,
-            lost: 0,
+            lost: 0, // those were of the size that came
         }
     }
 

@@ -349,7 +349,7 @@ impl MtuDiscovery {
                     self.put(self.current, Phase::Searching(s.on_lost()), detector)
                         .done(0)
                 } else {
-                    self.refuse(ORDER)
+                    self.refuse(ORDER) // none was in flight
                 }
             }
             Phase::Off => self.done(0),

@@ -104,7 +104,7 @@ pub fn put(list: &mut [u64], count: usize, s: u64, e: u64) -> Changed
         return Changed {
             answer: OK,
             count: count,
-            changed: false,
+            changed: false, // all was there
         };
     }
     let g = grow(list, lo, count, s, e);

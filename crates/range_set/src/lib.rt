@@ -79,7 +79,7 @@ fn usable(list: &[u64], count: usize, start: u64, end: u64) -> bool
 pub fn contains(list: &[u64], count: usize, x: u64) -> Held
     ensures { λ r. ⌜ r ≡ heldOf (now (list .entry)) count x ⌝ }
 {
-    if LIMIT <= x {
+    if LIMIT <= x { // no number to ask for
         return Held {
             answer: RANGE,
             held: false,
@@ -106,7 +106,7 @@ pub fn insert_one(list: &mut [u64], count: usize, x: u64) -> Changed
     if LIMIT <= x {
         return Changed {
             answer: RANGE,
-            count: 0,
+            count: 0, // x is no number
             changed: false,
         };
     }
@@ -120,11 +120,11 @@ pub fn insert(list: &mut [u64], count: usize, start: u64, end: u64) -> Changed
     if !usable(list, count, start, end) {
         return Changed {
             answer: RANGE,
-            count: 0,
+            count: 0, // nothing was put in
             changed: false,
         };
     }
-    if end <= start {
+    if end <= start { // nothing to put in
         return Changed {
             answer: OK,
             count: count,
@@ -141,11 +141,11 @@ pub fn remove(list: &mut [u64], count: usize, start: u64, end: u64) -> Changed
     if !usable(list, count, start, end) {
         return Changed {
             answer: RANGE,
-            count: 0,
+            count: 0, // nothing was taken out
             changed: false,
         };
     }
-    if end <= start {
+    if end <= start { // nothing to take out
         return Changed {
             answer: OK,
             count: count,
@@ -169,7 +169,7 @@ pub fn replace(list: &mut [u64], count: usize, start: u64, end: u64, parts: &mut
     if end <= start {
         return Replaced {
             answer: OK,
-            count: count,
+            count: count, // the set stays
             parts: 0,
         };
     }
@@ -187,7 +187,7 @@ pub fn add(list: &mut [u64], count: usize, other: &[u64], n: usize) -> Changed
             changed: false,
         };
     }
-    if !well_formed(other, n) {
+    if !well_formed(other, n) { // what is put in has to be a set too
         return Changed {
             answer: RANGE,
             count: 0,
@@ -208,7 +208,7 @@ pub fn subtract(list: &mut [u64], count: usize, other: &[u64], n: usize) -> Chan
             changed: false,
         };
     }
-    if !well_formed(other, n) {
+    if !well_formed(other, n) { // what is taken out has to be a set too
         return Changed {
             answer: RANGE,
             count: 0,
@@ -230,7 +230,7 @@ pub fn min(list: &[u64], count: usize) -> Bound
     }
     if count == 0 {
         return Bound {
-            answer: ORDER,
+            answer: ORDER, // there is no least number
             value: 0,
         };
     }
@@ -252,7 +252,7 @@ pub fn max(list: &[u64], count: usize) -> Bound
     }
     if count == 0 {
         return Bound {
-            answer: ORDER,
+            answer: ORDER, // there is no greatest number
             value: 0,
         };
     }
@@ -269,12 +269,12 @@ pub fn len(list: &[u64], count: usize) -> Size
     if !well_formed(list, count) {
         return Size {
             answer: RANGE,
-            count: 0,
+            count: 0, // not what the caller took for it
         };
     }
     Size {
         answer: OK,
-        count: count,
+        count: count, // ranges, not numbers
     }
 }
 
@@ -292,7 +292,7 @@ pub fn pop_min(list: &mut [u64], count: usize) -> Popped
     }
     if count == 0 {
         return Popped {
-            answer: ORDER,
+            answer: ORDER, // there is no range to take
             count: 0,
             start: 0,
             end: 0,

@@ -1,4 +1,5 @@
 // Replays a file of events, one to a line, and prints a line for each (docs/EVENTS.md): `replay FILE`, or `replay` for standard input.
+use events::Event;
 use ledger::State;
 use lines::Feed;
 
@@ -10,6 +11,28 @@ pub struct Kept {
 }
 
 // The lent arrays' sizes are those of `ledger` and `lines`.
+
+// The error line of what is no event.
+fn refused(out: &mut [u8; 65536], at: &mut usize, number: u64, code: u8) {
+    if code == codes::UNKNOWN {
+        say::error(out, at, number, b"no such event");
+    } else {
+        say::error(out, at, number, b"words that do not fit the event");
+    }
+}
+
+// What an event does.
+fn acted(
+    e: Event,
+    s: State,
+    numbers: &[u64; 32768],
+    bytes: &[u8; 65536],
+    scratch: &mut [u8; 65536],
+    memory: &mut [u64; 2432],
+    list: &mut [u64; 32768],
+) -> State {
+    ledger::step(e, numbers, bytes, scratch, s, memory, list)
+}
 
 // The answer of a line, or an error line; a line with no word has none.
 fn answer(
@@ -29,15 +52,11 @@ fn answer(
         return s;
     }
     let e = events::parse(words, numbers, bytes);
-    if e.code == codes::UNKNOWN {
-        say::error(out, at, number, b"no such event");
+    if e.code <= codes::UNFIT {
+        refused(out, at, number, e.code);
         return s;
     }
-    if e.code == codes::UNFIT {
-        say::error(out, at, number, b"words that do not fit the event");
-        return s;
-    }
-    let after = ledger::step(e, numbers, bytes, scratch, s, memory, list);
+    let after = acted(e, s, numbers, bytes, scratch, memory, list);
     show::show(after, scratch, memory, list, out, at);
     after
 }
@@ -46,7 +65,7 @@ fn answer(
 fn turn(
     fd: i32,
     buf: &mut [u8; 65536],
-    mut r: Kept,
+    r: Kept,
     numbers: &mut [u64; 32768],
     bytes: &mut [u8; 65536],
     scratch: &mut [u8; 65536],
@@ -55,16 +74,14 @@ fn turn(
     out: &mut [u8; 65536],
 ) -> Kept {
     let feed = lines::next(fd, buf, r.feed);
-    r.feed = feed;
+    let mut state = r.state;
     let mut at = r.at;
     let kind = feed.kind;
     if kind == lines::LINE {
         let line = lines::line(buf, feed);
-        let number = feed.number;
-        let state = r.state;
-        let s = answer(
+        state = answer(
             line,
-            number,
+            feed.number,
             state,
             numbers,
             bytes,
@@ -74,7 +91,6 @@ fn turn(
             out,
             &mut at,
         );
-        r.state = s;
     }
     if kind == lines::LONG {
         say::unread(out, &mut at, feed.number, true);
@@ -82,8 +98,7 @@ fn turn(
     if kind == lines::FAILED {
         say::unread(out, &mut at, feed.number, false);
     }
-    r.at = at;
-    r
+    Kept { feed, at, state }
 }
 
 // A proved loop has to end, and nothing says that a file does: the turns count down from a number that no run uses up.

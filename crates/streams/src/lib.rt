@@ -130,10 +130,10 @@ pub fn stop(c: Conn, table: &mut [u64], count: usize, id: u64) -> Done
     let x = stream_table::enter(c, table, count, id);
     match x {
         Entry::No(a) => c.refuse(a),
-        Entry::Absent => c.refuse(ORDER),
+        Entry::Absent => c.refuse(ORDER), // nothing is left to stop
         Entry::Place(i, s) => {
             let p = s.stop();
-            commit(c, table, i, id, false, p)
+            commit(c, table, i, id, false, p) // we stop it, the peer does not use it
         }
     }
 }
@@ -148,7 +148,7 @@ pub fn read(c: Conn, table: &mut [u64], count: usize, id: u64, n: u64) -> Done
     let x = stream_table::enter(c, table, count, id);
     match x {
         Entry::No(a) => c.refuse(a),
-        Entry::Absent => c.refuse(ORDER),
+        Entry::Absent => c.refuse(ORDER), // nothing is left to read
         Entry::Place(i, s) => {
             let p = s.read(n);
             commit(c, table, i, id, false, p)
@@ -163,10 +163,10 @@ pub fn seen(c: Conn, table: &mut [u64], count: usize, id: u64) -> Done
     let x = stream_table::enter(c, table, count, id);
     match x {
         Entry::No(a) => c.refuse(a),
-        Entry::Absent => c.refuse(ORDER),
+        Entry::Absent => c.refuse(ORDER), // its end was learnt
         Entry::Place(i, s) => {
             let p = s.seen();
-            commit(c, table, i, id, false, p)
+            commit(c, table, i, id, false, p) // we learn it, the peer does not use it
         }
     }
 }
@@ -178,7 +178,7 @@ pub fn announce(c: Conn, table: &mut [u64], count: usize, id: u64) -> Done
     let x = stream_table::enter(c, table, count, id);
     match x {
         Entry::No(a) => c.refuse(a),
-        Entry::Absent => c.refuse(ORDER),
+        Entry::Absent => c.refuse(ORDER), // it needs no limit
         Entry::Place(i, s) => {
             let p = s.announce(c.swindow);
             commit(c, table, i, id, false, p)
@@ -193,10 +193,10 @@ pub fn sent(c: Conn, table: &mut [u64], count: usize, id: u64) -> Done
     let x = stream_table::enter(c, table, count, id);
     match x {
         Entry::No(a) => c.refuse(a),
-        Entry::Absent => c.refuse(ORDER),
+        Entry::Absent => c.refuse(ORDER), // its sending is done
         Entry::Place(i, s) => {
             let p = s.sent();
-            commit(c, table, i, id, false, p)
+            commit(c, table, i, id, false, p) // we send, the peer does not use it
         }
     }
 }

@@ -177,7 +177,7 @@ pub fn number_at(s: &[u8], at: usize) -> Number
         Digits::Not => Number {
             ok: false,
             value: 0,
-            next: start,
+            next: start, // so that a later number is refused too
         },
     }
 }
