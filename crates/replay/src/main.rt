@@ -3,13 +3,6 @@ use events::Event;
 use ledger::State;
 use lines::Feed;
 
-// What is kept from line to line, but for the arrays.
-pub struct Kept {
-    pub feed: Feed,
-    pub at: usize,
-    pub state: State,
-}
-
 // The lent arrays' sizes are those of `ledger` and `lines`.
 
 // The error line of what is no event.
@@ -61,44 +54,47 @@ fn answer(
     after
 }
 
-// One call for the next line, and what comes of it.
+// What comes of one call for the next line.
 fn turn(
-    fd: i32,
-    buf: &mut [u8; 65536],
-    r: Kept,
+    feed: Feed,
+    buf: &[u8; 65536],
+    s: State,
     numbers: &mut [u64; 32768],
     bytes: &mut [u8; 65536],
     scratch: &mut [u8; 65536],
     memory: &mut [u64; 2432],
     list: &mut [u64; 32768],
     out: &mut [u8; 65536],
-) -> Kept {
-    let feed = lines::next(fd, buf, r.feed);
-    let mut state = r.state;
-    let mut at = r.at;
-    let kind = feed.kind;
-    if kind == lines::LINE {
+    at: &mut usize,
+) -> State {
+    let number = feed.number;
+    if feed.kind == lines::LINE {
         let line = lines::line(buf, feed);
-        state = answer(
+        return answer(
             line,
-            feed.number,
-            state,
+            number,
+            s,
             numbers,
             bytes,
             scratch,
             memory,
             list,
             out,
-            &mut at,
+            at,
         );
     }
-    if kind == lines::LONG {
-        say::unread(out, &mut at, feed.number, true);
+    if (feed.kind == lines::LONG) | (feed.kind == lines::FAILED) {
+        say::unread(out, at, number, feed.kind == lines::LONG);
     }
-    if kind == lines::FAILED {
-        say::unread(out, &mut at, feed.number, false);
+    s
+}
+
+// What is left to write is written; a write that failed is told.
+fn finish(out: &mut [u8; 65536], mut at: usize) {
+    out::flush(out, &mut at);
+    if at == out::FAILED {
+        os::fail(b"standard output");
     }
-    Kept { feed, at, state }
 }
 
 // A proved loop has to end, and nothing says that a file does: the turns count down from a number that no run uses up.
@@ -110,32 +106,27 @@ fn run(fd: i32) {
     let mut numbers = [0u64; 32768];
     let mut memory = [0u64; 2432];
     let mut list = [0u64; 32768];
-    let mut r = Kept {
-        feed: lines::begin(),
-        at: 0,
-        state: ledger::begin(),
-    };
+    let mut feed = lines::begin();
+    let mut state = ledger::begin();
+    let mut at = 0;
     let mut turns = u64::MAX;
     while turns > 0 {
         turns -= 1;
-        r = turn(
-            fd,
-            &mut buf,
-            r,
+        feed = lines::next(fd, &mut buf, feed);
+        state = turn(
+            feed,
+            &buf,
+            state,
             &mut numbers,
             &mut bytes,
             &mut scratch,
             &mut memory,
             &mut list,
             &mut out,
+            &mut at,
         );
-        let feed = r.feed;
         if lines::END <= feed.kind {
-            let mut at = r.at;
-            out::flush(&mut out, &mut at);
-            if at == out::FAILED {
-                os::fail(b"standard output");
-            }
+            finish(&mut out, at);
             return;
         }
     }

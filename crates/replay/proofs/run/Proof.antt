@@ -1,14 +1,15 @@
 -- `replay::run` meets its contract. The turns count down. Assumes nothing.
 use borrow.Author.Needs.{needs}
+use native.Mathlib.Omega.{arith}
 use Rattle.replay.proofs.run.Statement.{statement}
 use Rattle.replay.proofs.run.Tie as tie
 
 abbrev Inv-loop : tie.InvT-loop
-Inv-loop fd buf₀ out₀ bytes₀ scratch₀ numbers₀ memory₀ list₀ r₀ turns₀ t13 buf out bytes scratch numbers memory list r turns =
+Inv-loop fd buf₀ out₀ bytes₀ scratch₀ numbers₀ memory₀ list₀ feed₀ state₀ at₀ turns₀ buf out bytes scratch numbers memory list feed state at turns =
     Unit
 
 abbrev μ-loop : tie.MeasureT-loop
-μ-loop fd buf₀ out₀ bytes₀ scratch₀ numbers₀ memory₀ list₀ r₀ turns₀ t13 buf out bytes scratch numbers memory list r turns =
+μ-loop fd buf₀ out₀ bytes₀ scratch₀ numbers₀ memory₀ list₀ feed₀ state₀ at₀ turns₀ buf out bytes scratch numbers memory list feed state at turns =
     turns
 
 large-buffer-requires : tie.Need-large-buffer-requires Inv-loop μ-loop
@@ -35,32 +36,26 @@ loop-holds c = search needs
 sub-turns : tie.Need-sub-turns Inv-loop μ-loop
 sub-turns c = search needs
 
+next-requires : tie.Need-next-requires Inv-loop μ-loop
+next-requires c κs = search needs
+
 turn-requires : tie.Need-turn-requires Inv-loop μ-loop
 turn-requires c κs = search needs
 
-flush-requires : tie.Need-flush-requires Inv-loop μ-loop
-flush-requires c κs = search needs
-
-slice-aggregate-fail : tie.Need-slice-aggregate-fail Inv-loop μ-loop
-slice-aggregate-fail c = search needs
-
-fail-requires : tie.Need-fail-requires Inv-loop μ-loop
-fail-requires c κs = search needs
+finish-requires : tie.Need-finish-requires Inv-loop μ-loop
+finish-requires c κs = search needs
 
 returns : tie.Need-returns Inv-loop μ-loop
 returns c = search needs
 
-returns-2 : tie.Need-returns-2 Inv-loop μ-loop
-returns-2 c = search needs
-
 loop-less : tie.Need-loop-less Inv-loop μ-loop
-loop-less c = search needs
+loop-less c = omega (arith, c .before .before .before .before .before .before .before .before .before .before .before .before .before .loop-test .taken)
 
 loop-again : tie.Need-loop-again Inv-loop μ-loop
 loop-again c = search needs
 
-returns-3 : tie.Need-returns-3 Inv-loop μ-loop
-returns-3 c = search needs
+returns-2 : tie.Need-returns-2 Inv-loop μ-loop
+returns-2 c = search needs
 
 pub run-spec : {M : Type 1} → statement M
 run-spec =
@@ -76,12 +71,10 @@ run-spec =
     begin-requires-2
     loop-holds
     sub-turns
+    next-requires
     turn-requires
-    flush-requires
-    slice-aggregate-fail
-    fail-requires
+    finish-requires
     returns
-    returns-2
     loop-less
     loop-again
-    returns-3)
+    returns-2)
