@@ -14,7 +14,7 @@ fn refused(out: &mut [u8; 65536], at: &mut usize, number: u64, code: u8) {
     }
 }
 
-// What an event does.
+// What an event does; apart from its line, as the two calls in one function take twice as long to check.
 fn acted(
     e: Event,
     s: State,
