@@ -5,9 +5,14 @@ ghost use Prim.Native.Nat.{ℕ, _≤_};
 use answers::FULL;
 use answers::OK;
 use libc::STDOUT_FILENO;
+use range_edit::Changed;
+use range_edit::Replaced;
 
 // 5 calls, 64 sets, 64 second sets or ranges, 5 capacities.
 const CASES: u64 = 102400;
+
+// No answer of any call: the lists here are never too short.
+const NONE: u8 = 255;
 
 // Two to the power x, for small x.
 fn two(x: u64) -> u64 {
@@ -143,26 +148,18 @@ fn after(k: Case) -> u64 {
     set | with
 }
 
-// What a call gave.
-struct Gave {
-    answer: u8,
-    count: usize,
-    changed: bool,
-}
-
-// What a replace gave.
-struct Told {
-    answer: u8,
-    count: usize,
-    parts: usize,
+// How many ranges a set has.
+fn size(bits: u64) -> usize {
+    let mut list = [0u64; 16];
+    ranges_of(&mut list, bits)
 }
 
 // Makes the call on the first places of the list.
-fn cut_call(k: Case, list: &mut [u64], count: usize, other: &[u64], n: usize) -> Gave {
+fn cut_call(k: Case, list: &mut [u64], count: usize, other: &[u64], n: usize) -> Changed {
     let end = places(k.places) * 2;
     if list.len() < end {
-        return Gave {
-            answer: 255,
+        return Changed {
+            answer: NONE,
             count: 0,
             changed: false,
         };
@@ -170,164 +167,129 @@ fn cut_call(k: Case, list: &mut [u64], count: usize, other: &[u64], n: usize) ->
     call_of(k, &mut list[..end], count, other, n)
 }
 
-// Replaces on the first places of both lists.
-fn cut_replace(k: Case, list: &mut [u64], count: usize, parts: &mut [u64]) -> Told {
+// Makes one of the calls that change a set.
+fn call_of(k: Case, list: &mut [u64], count: usize, other: &[u64], n: usize) -> Changed {
+    let call = k.call;
+    let s = start_of(k.second);
+    let e = end_of(k.second);
+    match call {
+        0 => range_set::insert(list, count, s, e),
+        1 => range_set::remove(list, count, s, e),
+        2 => range_set::add(list, count, other, n),
+        _ => range_set::subtract(list, count, other, n),
+    }
+}
+
+// What the call gives, and leaves in the list.
+fn changed(k: Case, list: &mut [u64]) -> Changed {
+    let count = ranges_of(list, k.set);
+    let mut other = [99u64; 16];
+    let n = ranges_of(&mut other, k.second);
+    cut_call(k, list, count, &other, n)
+}
+
+// What it is to give and to leave by the bits: FULL, zero values and nothing written; or OK, the new ranges, and past them what was there.
+fn change_wanted(k: Case, list: &mut [u64]) -> Changed {
+    ranges_of(list, k.set);
+    let set = after(k);
+    if k.places < size(set) {
+        return Changed {
+            answer: FULL,
+            count: 0,
+            changed: false,
+        };
+    }
+    let count = ranges_of(list, set);
+    Changed {
+        answer: OK,
+        count,
+        changed: set != k.set,
+    }
+}
+
+fn change_right(k: Case) -> bool {
+    let mut list = [99u64; 16];
+    let mut want = [99u64; 16];
+    let r = changed(k, &mut list);
+    let e = change_wanted(k, &mut want);
+    (r.answer == e.answer) & (r.count == e.count) & (r.changed == e.changed) & same(&list, &want)
+}
+
+// The same of replace, on the first places of both lists.
+fn replaced(k: Case, list: &mut [u64], parts: &mut [u64]) -> Replaced {
+    let count = ranges_of(list, k.set);
     let end = places(k.places) * 2;
     if list.len() < end {
-        return Told {
-            answer: 255,
+        return Replaced {
+            answer: NONE,
             count: 0,
             parts: 0,
         };
     }
     if parts.len() < end {
-        return Told {
-            answer: 255,
+        return Replaced {
+            answer: NONE,
             count: 0,
             parts: 0,
         };
     }
-    let r = range_set::replace(
+    range_set::replace(
         &mut list[..end],
         count,
         start_of(k.second),
         end_of(k.second),
         &mut parts[..end],
-    );
-    Told {
-        answer: r.answer,
-        count: r.count,
-        parts: r.parts,
-    }
+    )
 }
 
-// Makes one of the calls that change a set.
-fn call_of(k: Case, list: &mut [u64], count: usize, other: &[u64], n: usize) -> Gave {
-    let call = k.call;
-    let s = start_of(k.second);
-    let e = end_of(k.second);
-    if call == 0 {
-        let r = range_set::insert(list, count, s, e);
-        return Gave {
-            answer: r.answer,
-            count: r.count,
-            changed: r.changed,
+fn replace_wanted(k: Case, list: &mut [u64], parts: &mut [u64]) -> Replaced {
+    ranges_of(list, k.set);
+    let set = k.set | moved(k);
+    let common = k.set & moved(k);
+    if k.places < greater(size(set), size(common)) {
+        return Replaced {
+            answer: FULL,
+            count: 0,
+            parts: 0,
         };
     }
-    if call == 1 {
-        let r = range_set::remove(list, count, s, e);
-        return Gave {
-            answer: r.answer,
-            count: r.count,
-            changed: r.changed,
-        };
-    }
-    if call == 2 {
-        let r = range_set::add(list, count, other, n);
-        return Gave {
-            answer: r.answer,
-            count: r.count,
-            changed: r.changed,
-        };
-    }
-    let r = range_set::subtract(list, count, other, n);
-    Gave {
-        answer: r.answer,
-        count: r.count,
-        changed: r.changed,
+    let count = ranges_of(list, set);
+    let n = ranges_of(parts, common);
+    Replaced {
+        answer: OK,
+        count,
+        parts: n,
     }
 }
 
-// Whether a changing call gave what the bits say, and left what they say: the new ranges, and past them what was there.
-fn right(k: Case) -> bool {
-    let mut list = [99u64; 16];
-    let count = ranges_of(&mut list, k.set);
-    if k.places < count {
-        return true;
-    }
-    let mut other = [99u64; 16];
-    let n = ranges_of(&mut other, k.second);
-    let before = list;
-    let mut want = list;
-    let new = ranges_of(&mut want, after(k));
-    let r = cut_call(k, &mut list, count, &other, n);
-    if k.places < new {
-        return full(r, &list, &before);
-    }
-    fits(r, new, after(k) != k.set, &list, &want)
-}
-
-// FULL: zero values, and nothing written.
-fn full(r: Gave, list: &[u64], before: &[u64]) -> bool {
-    if r.answer != FULL {
-        return false;
-    }
-    if r.count != 0 {
-        return false;
-    }
-    if r.changed {
-        return false;
-    }
-    same(list, before)
-}
-
-// OK, with the new count, whether the set changed, and the list that is wanted.
-fn fits(r: Gave, count: usize, changed: bool, list: &[u64], want: &[u64]) -> bool {
-    if r.answer != OK {
-        return false;
-    }
-    if r.count != count {
-        return false;
-    }
-    if r.changed != changed {
-        return false;
-    }
-    same(list, want)
-}
-
-// The same of replace, with as many places for the parts as for the set.
 fn replace_right(k: Case) -> bool {
     let mut list = [99u64; 16];
-    let count = ranges_of(&mut list, k.set);
-    if k.places < count {
-        return true;
-    }
+    let mut want = [99u64; 16];
     let mut parts = [98u64; 16];
-    let blank = parts;
-    let mut reported = parts;
-    let before = list;
-    let mut want = list;
-    let new = ranges_of(&mut want, k.set | moved(k));
-    let m = ranges_of(&mut reported, k.set & moved(k));
-    let r = cut_replace(k, &mut list, count, &mut parts);
-    if k.places < greater(new, m) {
-        return as_told(r, FULL, 0, 0) & same(&list, &before) & same(&parts, &blank);
-    }
-    as_told(r, OK, new, m) & same(&list, &want) & same(&parts, &reported)
+    let mut reported = [98u64; 16];
+    let r = replaced(k, &mut list, &mut parts);
+    let e = replace_wanted(k, &mut want, &mut reported);
+    (r.answer == e.answer)
+        & (r.count == e.count)
+        & (r.parts == e.parts)
+        & same(&list, &want)
+        & same(&parts, &reported)
 }
 
 fn greater(a: usize, b: usize) -> usize {
     if a < b { b } else { a }
 }
 
-// Whether a replace gave this answer and these counts.
-fn as_told(r: Told, answer: u8, count: usize, parts: usize) -> bool {
-    if r.answer != answer {
-        return false;
-    }
-    if r.count != count {
-        return false;
-    }
-    r.parts == parts
-}
-
-// One more wrong case, or not.
+// One more wrong case, or not; a set with no room in these places is no case.
 fn count_wrong(wrong: u64, c: u64) -> u64 {
     let k = case_of(c);
+    if k.places < size(k.set) {
+        return wrong;
+    }
     let ok = if k.call == 4 {
         replace_right(k)
     } else {
-        right(k)
+        change_right(k)
     };
     if ok { wrong } else { more(wrong) }
 }
