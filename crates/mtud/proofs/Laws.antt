@@ -40,16 +40,16 @@ pub blank-is : {c : MtuDiscoveryConfig} {d : BlackHoleDetector} → c ≡ noConf
 unfolding blank
 blank-is e f = rw (e, f)
 
-pub open-is : (x least : ℕ) (told : Bool) (peer : ℕ) (c : MtuDiscoveryConfig) (p : Phase) {k : ℕ} {d : BlackHoleDetector} → k ≡ min x peer → d ≡ hole.fresh least
-    → _≡_ {A = MtuDiscovery} (record { current = k; phase = p; told = told; peer = peer; config = c; detector = d }) (opened x least told peer c p)
+pub open-is : (x least : ℕ) (told : Bool) (peer : ℕ) (c : MtuDiscoveryConfig) (p : Phase) {k : ℕ} {d : BlackHoleDetector} {r : Done} → k ≡ min x peer → d ≡ hole.fresh least
+    → r ≡ done (record { current = k; phase = p; told = told; peer = peer; config = c; detector = d }) 0 → r ≡ done (opened x least told peer c p) 0
 unfolding opened
-open-is x least told peer c p e f = rw (e, f)
+open-is x least told peer c p e f er = rw (← e, ← f) er
 
 module _ (initial least : ℕ) (told : Bool) (peer : ℕ) (c : MtuDiscoveryConfig) where
-  pub start-fine : {i l p g : Bool} {m : MtuDiscovery} {r : Done} → i ≡ sizeB initial → l ≡ sizeB least → p ≡ sizeB peer → g ≡ goodConfig c
-      → ((i && l) && (leb least initial && (p && g))) ≡ true → m ≡ opened initial least told peer c Initial → r ≡ done m 0 → r ≡ startedWith initial least told peer c
+  pub start-fine : {i l p g : Bool} {r : Done} → i ≡ sizeB initial → l ≡ sizeB least → p ≡ sizeB peer → g ≡ goodConfig c
+      → ((i && l) && (leb least initial && (p && g))) ≡ true → r ≡ done (opened initial least told peer c Initial) 0 → r ≡ startedWith initial least told peer c
   unfolding startedWith
-  start-fine ei el ep eg t em er = rw (← ei, ← el, ← ep, ← eg, t, ← em) er
+  start-fine ei el ep eg t er = rw (← ei, ← el, ← ep, ← eg, t) er
 
   pub start-refused : {i l p g : Bool} {m : MtuDiscovery} {r : Done} → i ≡ sizeB initial → l ≡ sizeB least → p ≡ sizeB peer → g ≡ goodConfig c
       → ((i && l) && (leb least initial && (p && g))) ≡ false → m ≡ blank → r ≡ refused m RANGE → r ≡ startedWith initial least told peer c
@@ -66,10 +66,10 @@ module _ (initial least : ℕ) (q : PeerMax) (c : MtuDiscoveryConfig) where
   new-known e f = rw e f
 
 module _ (x least : ℕ) where
-  pub off-fine : {i l : Bool} {c : MtuDiscoveryConfig} {m : MtuDiscovery} {r : Done} → i ≡ sizeB x → l ≡ sizeB least → (i && l) ≡ true → c ≡ noConfig
-      → m ≡ opened x least false 65527 c Off → r ≡ done m 0 → r ≡ switchedOff x least
+  pub off-fine : {i l : Bool} {c : MtuDiscoveryConfig} {r : Done} → i ≡ sizeB x → l ≡ sizeB least → (i && l) ≡ true → c ≡ noConfig
+      → r ≡ done (opened x least false 65527 c Off) 0 → r ≡ switchedOff x least
   unfolding switchedOff
-  off-fine ei el t ec em er = rw (← ei, ← el, t, ← ec, ← em) er
+  off-fine ei el t ec er = rw (← ei, ← el, t, ← ec) er
 
   pub off-refused : {i l : Bool} {m : MtuDiscovery} {r : Done} → i ≡ sizeB x → l ≡ sizeB least → (i && l) ≡ false → m ≡ blank → r ≡ refused m RANGE
       → r ≡ switchedOff x least
@@ -77,10 +77,10 @@ module _ (x least : ℕ) where
   off-refused ei el t em er = rw (← ei, ← el, t, ← em) er
 
   module _ (m : MtuDiscovery) where
-    pub reset-fine : {g i l : Bool} {p : Phase} {n : MtuDiscovery} {r : Done} → g ≡ good m → i ≡ sizeB x → l ≡ sizeB least → (g && (i && l)) ≡ true
-        → p ≡ restarted (m .phase) → n ≡ opened x least (m .told) (m .peer) (m .config) p → r ≡ done n 0 → r ≡ resetTo m x least
+    pub reset-fine : {g i l : Bool} {p : Phase} {r : Done} → g ≡ good m → i ≡ sizeB x → l ≡ sizeB least → (g && (i && l)) ≡ true
+        → p ≡ restarted (m .phase) → r ≡ done (opened x least (m .told) (m .peer) (m .config) p) 0 → r ≡ resetTo m x least
     unfolding resetTo
-    reset-fine eg ei el t ep en er = rw (← eg, ← ei, ← el, t, ← ep, ← en) er
+    reset-fine eg ei el t ep er = rw (← eg, ← ei, ← el, t, ← ep) er
 
     pub reset-refused : {g i l : Bool} {r : Done} → g ≡ good m → i ≡ sizeB x → l ≡ sizeB least → (g && (i && l)) ≡ false → r ≡ refused m RANGE → r ≡ resetTo m x least
     unfolding resetTo
@@ -88,9 +88,9 @@ module _ (x least : ℕ) where
 
 -- ---- a probe is asked for
 module _ (m : MtuDiscovery) (x : ℕ) (d : BlackHoleDetector) (now span v : ℕ) where
-  pub rest-fine : {n : MtuDiscovery} {r : Done} → now + span < 2 ^ 64 → n ≡ put m x (Complete (now + span)) d → r ≡ done n v → r ≡ rested m x d now span v
+  pub rest-fine : {r : Done} → now + span < 2 ^ 64 → r ≡ done (put m x (Complete (now + span)) d) v → r ≡ rested m x d now span v
   unfolding rested
-  rest-fine h en er = rw (lt-ltb (now + span) (2 ^ 64) h, ← en) er
+  rest-fine h er = rw (lt-ltb (now + span) (2 ^ 64) h) er
 
   pub rest-refused : {r : Done} → 2 ^ 64 ≤ now + span → r ≡ refused m RANGE → r ≡ rested m x d now span v
   unfolding rested
@@ -104,10 +104,10 @@ module _ (m : MtuDiscovery) (s : SearchState) (now n : ℕ) where
   unfolding turned
   turn-waiting e f er = er ∙ sym (turn-at Waiting (sym e ∙ f))
 
-  pub turn-probing : {t : Turn} {u : SearchState} {k : MtuDiscovery} {r : Done} → t ≡ search.turn s (m .config .change) n → t ≡ Probing u
-      → k ≡ at m (Searching u) → r ≡ done k (u .last) → r ≡ turnIn m s now n
+  pub turn-probing : {t : Turn} {u : SearchState} {r : Done} → t ≡ search.turn s (m .config .change) n → t ≡ Probing u
+      → r ≡ done (at m (Searching u)) (u .last) → r ≡ turnIn m s now n
   unfolding turned
-  turn-probing {t} {u} {k} e f ek er = er ∙ ap (λ (q : MtuDiscovery). done q (u .last)) ek ∙ sym (turn-at (Probing u) (sym e ∙ f))
+  turn-probing {t} {u} e f er = er ∙ sym (turn-at (Probing u) (sym e ∙ f))
 
   pub turn-over : {t : Turn} {r : Done} → t ≡ search.turn s (m .config .change) n → t ≡ Over → r ≡ rested m (m .current) (m .detector) now (m .config .interval) 0
       → r ≡ turnIn m s now n
@@ -169,8 +169,8 @@ module _ (m : MtuDiscovery) (n x : ℕ) where
   abbrev isDelivered : Done → Type 0
   isDelivered r = r ≡ byAcked (m .phase) m n x
 
-  pub other-is : {d : BlackHoleDetector} {k : MtuDiscovery} {r : Done} → d ≡ hole.delivered (m .detector) n x → k ≡ watching m d → r ≡ done k 0 → r ≡ delivered m n x
-  other-is ed ek er = er ∙ ap (λ (q : MtuDiscovery). done q 0) (ek ∙ ap (λ (q : BlackHoleDetector). watching m q) ed)
+  pub other-is : {d : BlackHoleDetector} {r : Done} → d ≡ hole.delivered (m .detector) n x → r ≡ done (watching m d) 0 → r ≡ delivered m n x
+  other-is ed er = er ∙ ap (λ (q : BlackHoleDetector). done (watching m q) 0) ed
 
   pub acked-off : {r : Done} → m .phase ≡ Off → r ≡ delivered m n x → isDelivered r
   unfolding byAcked
@@ -188,12 +188,12 @@ module _ (m : MtuDiscovery) (n x : ℕ) where
   unfolding byAcked isProbe
   acked-other e f er = er ∙ sym (ap ackedAt e ∙ rw f)
 
-  pub probe-is : (s : SearchState) {t : SearchState} {d : BlackHoleDetector} {k : MtuDiscovery} {r : Done} → d ≡ hole.probeAcked (m .detector) n x → t ≡ search.acked s
-      → k ≡ put m (s .last) (Searching t) d → r ≡ done k 1 → r ≡ probeDelivered m s n x
-  probe-is s {t} {d} ed es ek er =
+  pub probe-is : (s : SearchState) {t : SearchState} {d : BlackHoleDetector} {r : Done} → d ≡ hole.probeAcked (m .detector) n x → t ≡ search.acked s
+      → r ≡ done (put m (s .last) (Searching t) d) 1 → r ≡ probeDelivered m s n x
+  probe-is s {t} {d} ed es er =
       er
-      ∙ ap (λ (q : MtuDiscovery). done q 1)
-      (ek ∙ ap (λ (q : SearchState). put m (s .last) (Searching q) d) es ∙ ap (λ (q : BlackHoleDetector). put m (s .last) (Searching (search.acked s)) q) ed)
+      ∙ ap (λ (q : SearchState). done (put m (s .last) (Searching q) d) 1) es
+      ∙ ap (λ (q : BlackHoleDetector). done (put m (s .last) (Searching (search.acked s)) q) 1) ed
 
   pub acked-probe : {s : SearchState} {r : Done} → m .phase ≡ Searching s → (s .flying && eqb (s .probe) n) ≡ true → r ≡ probeDelivered m s n x → isDelivered r
   unfolding byAcked isProbe
@@ -212,10 +212,10 @@ module _ (m : MtuDiscovery) (n x : ℕ) where
   unfolding packetLost late
   lost-order eg ep t f er = rw (← eg, ← ep, t, f) er
 
-  pub lost-fine : {g p : Bool} {d : BlackHoleDetector} {k : MtuDiscovery} {r : Done} → g ≡ good m → p ≡ packetB n x → (g && p) ≡ true
-      → (m .detector .current .has && leb n (m .detector .current .latest)) ≡ false → d ≡ hole.lost (m .detector) n x → k ≡ watching m d → r ≡ done k 0 → r ≡ packetLost m n x
+  pub lost-fine : {g p : Bool} {d : BlackHoleDetector} {r : Done} → g ≡ good m → p ≡ packetB n x → (g && p) ≡ true
+      → (m .detector .current .has && leb n (m .detector .current .latest)) ≡ false → d ≡ hole.lost (m .detector) n x → r ≡ done (watching m d) 0 → r ≡ packetLost m n x
   unfolding packetLost late
-  lost-fine eg ep t f ed ek er = rw (← eg, ← ep, t, f, ← ed, ← ek) er
+  lost-fine eg ep t f ed er = rw (← eg, ← ep, t, f, ← ed) er
 
   pub lost-refused : {g p : Bool} {r : Done} → g ≡ good m → p ≡ packetB n x → (g && p) ≡ false → r ≡ refused m RANGE → r ≡ packetLost m n x
   unfolding packetLost
@@ -238,11 +238,10 @@ module _ (m : MtuDiscovery) where
   unfolding byLost
   miss-complete e er = er ∙ ap lostAt (sym e)
 
-  pub miss-flying : {s t : SearchState} {k : MtuDiscovery} {r : Done} → m .phase ≡ Searching s → s .flying ≡ true → t ≡ search.missed s
-      → k ≡ at m (Searching t) → r ≡ done k 0 → r ≡ byLost (m .phase) m
+  pub miss-flying : {s t : SearchState} {r : Done} → m .phase ≡ Searching s → s .flying ≡ true → t ≡ search.missed s
+      → r ≡ done (at m (Searching t)) 0 → r ≡ byLost (m .phase) m
   unfolding byLost
-  miss-flying e f et ek er =
-      er ∙ ap (λ (q : MtuDiscovery). done q 0) (ek ∙ ap (λ (q : SearchState). at m (Searching q)) et) ∙ sym (ap lostAt e ∙ rw f)
+  miss-flying e f et er = er ∙ ap (λ (q : SearchState). done (at m (Searching q)) 0) et ∙ sym (ap lostAt e ∙ rw f)
 
   pub miss-order : {s : SearchState} {r : Done} → m .phase ≡ Searching s → s .flying ≡ false → r ≡ refused m ORDER → r ≡ byLost (m .phase) m
   unfolding byLost
@@ -258,10 +257,10 @@ module _ (m : MtuDiscovery) where
 
   -- ---- a black hole
   module _ (d : BlackHoleDetector) (now : ℕ) where
-    pub fall-off : {b : Bool} {x : ℕ} {k : MtuDiscovery} {r : Done} → b ≡ offB (m .phase) → b ≡ true → x ≡ min (d .minimum) (m .peer) → k ≡ put m x Off d → r ≡ done k 1
+    pub fall-off : {b : Bool} {x : ℕ} {r : Done} → b ≡ offB (m .phase) → b ≡ true → x ≡ min (d .minimum) (m .peer) → r ≡ done (put m x Off d) 1
         → r ≡ fallen m d now
     unfolding fallen
-    fall-off eb t ex ek er = rw (← eb, t, ← ex, ← ek) er
+    fall-off eb t ex er = rw (← eb, t, ← ex) er
 
     pub fall-on : {b : Bool} {x : ℕ} {r : Done} → b ≡ offB (m .phase) → b ≡ false → x ≡ min (d .minimum) (m .peer) → r ≡ rested m x d now (m .config .cooldown) 1
         → r ≡ fallen m d now
@@ -274,10 +273,10 @@ module _ (m : MtuDiscovery) where
     unfolding holeAsked byHole
     hole-found {g} {h} e t eh f er = rw (← e, t, ← eh, f) er
 
-    pub hole-none : {g : Bool} {h : Detected} {k : MtuDiscovery} {r : Done} → g ≡ good m → g ≡ true → h ≡ hole.detected (m .detector) → h .found ≡ false
-        → k ≡ watching m (h .detector) → r ≡ done k 0 → r ≡ holeAsked m now
+    pub hole-none : {g : Bool} {h : Detected} {r : Done} → g ≡ good m → g ≡ true → h ≡ hole.detected (m .detector) → h .found ≡ false
+        → r ≡ done (watching m (h .detector)) 0 → r ≡ holeAsked m now
     unfolding holeAsked byHole
-    hole-none {g} {h} e t eh f ek er = rw (← e, t, ← eh, f, ← ek) er
+    hole-none {g} {h} e t eh f er = rw (← e, t, ← eh, f) er
 
     pub hole-refused : {g : Bool} {r : Done} → g ≡ good m → g ≡ false → r ≡ refused m RANGE → r ≡ holeAsked m now
     unfolding holeAsked

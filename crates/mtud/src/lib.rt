@@ -92,17 +92,18 @@ fn open(
     peer: u16,
     config: MtuDiscoveryConfig,
     phase: Phase,
-) -> MtuDiscovery
-    ensures { λ r. ⌜ r ≡ opened size minimum told peer config phase ⌝ }
+) -> Done
+    ensures { λ r. ⌜ r ≡ done (opened size minimum told peer config phase) 0 ⌝ }
 {
-    MtuDiscovery {
+    let m = MtuDiscovery {
         current: least(size, peer),
         phase,
         told,
         peer,
         config,
         detector: BlackHoleDetector::new(minimum),
-    }
+    };
+    m.done(0)
 }
 
 fn start(initial: u16, minimum: u16, told: bool, peer: u16, config: MtuDiscoveryConfig) -> Done
@@ -111,7 +112,7 @@ fn start(initial: u16, minimum: u16, told: bool, peer: u16, config: MtuDiscovery
     let fine = (is_size(initial) & is_size(minimum))
         & ((minimum <= initial) & (is_size(peer) & config.good()));
     if fine {
-        return open(initial, minimum, told, peer, config, Phase::Initial).done(0);
+        return open(initial, minimum, told, peer, config, Phase::Initial);
     }
     blank().refuse(RANGE)
 }
@@ -140,7 +141,7 @@ impl MtuDiscovery {
                 MOST,
                 MtuDiscoveryConfig::none(),
                 Phase::Off,
-            ).done(0);
+            );
         }
         blank().refuse(RANGE)
     }
@@ -152,7 +153,7 @@ impl MtuDiscovery {
         if self.good() & (is_size(size) & is_size(minimum)) {
             let config = self.config;
             let phase = self.phase;
-            return open(size, minimum, self.told, self.peer, config, phase.restart()).done(0);
+            return open(size, minimum, self.told, self.peer, config, phase.restart());
         }
         self.refuse(RANGE)
     }
@@ -216,8 +217,12 @@ impl MtuDiscovery {
         let t = s.poll(config.change, number);
         match t {
             Turn::Waiting => self.done(0),
-            Turn::Probing(next) => self.put(self.current, Phase::Searching(next), detector)
-                .done(next.last),
+            Turn::Probing(next) => self.put(
+                self.current,
+                Phase::Searching(next),
+                detector,
+                next.last,
+            ),
             Turn::Over => self.rest(self.current, detector, time, config.interval, 0),
         }
     }
@@ -234,8 +239,8 @@ impl MtuDiscovery {
         ensures { λ r. ⌜ r ≡ rested self current detector time span value ⌝ }
     {
         if time <= u64::MAX - span {
-            return self.put(current, Phase::Complete(time + span), detector)
-                .done(value);
+            let until = time + span;
+            return self.put(current, Phase::Complete(until), detector, value);
         }
         self.refuse(RANGE)
     }
@@ -297,7 +302,7 @@ impl MtuDiscovery {
     {
         let detector = self.detector;
         let d = detector.on_probe_acked(number, size);
-        self.put(s.last, Phase::Searching(s.on_acked()), d).done(1)
+        self.put(s.last, Phase::Searching(s.on_acked()), d, 1)
     }
 
     fn deliver_other(self, number: u64, size: u16) -> Done
@@ -306,11 +311,11 @@ impl MtuDiscovery {
         let phase = self.phase;
         let detector = self.detector;
         self.put(
-                self.current,
-                phase,
-                detector.on_non_probe_acked(number, size),
-            )
-            .done(0)
+            self.current,
+            phase,
+            detector.on_non_probe_acked(number, size),
+            0,
+        )
     }
 
     // The packet number of the probe in flight, if there is one; or RANGE.
@@ -346,8 +351,7 @@ impl MtuDiscovery {
             Phase::Searching(s) => {
                 if s.flying {
                     let detector = self.detector;
-                    self.put(self.current, Phase::Searching(s.on_lost()), detector)
-                        .done(0)
+                    self.put(self.current, Phase::Searching(s.on_lost()), detector, 0)
                 } else {
                     self.refuse(ORDER) // none was in flight
                 }
@@ -370,11 +374,11 @@ impl MtuDiscovery {
             }
             let phase = self.phase;
             return self.put(
-                    self.current,
-                    phase,
-                    detector.on_non_probe_lost(number, size),
-                )
-                .done(0);
+                self.current,
+                phase,
+                detector.on_non_probe_lost(number, size),
+                0,
+            );
         }
         self.refuse(RANGE)
     }
@@ -392,7 +396,7 @@ impl MtuDiscovery {
             }
             let d = h.detector;
             let phase = self.phase;
-            return self.put(self.current, phase, d).done(0);
+            return self.put(self.current, phase, d, 0);
         }
         self.refuse(RANGE)
     }
@@ -405,7 +409,7 @@ impl MtuDiscovery {
         let phase = self.phase;
         let size = least(d.minimum, self.peer);
         if phase.off() {
-            return self.put(size, Phase::Off, d).done(1);
+            return self.put(size, Phase::Off, d, 1);
         }
         self.rest(size, d, time, config.cooldown, 1)
     }
@@ -446,18 +450,23 @@ impl MtuDiscovery {
                 & (detector.good() & phase.good(config, self.current, self.peer)))
     }
 
-    // The record with another MTU, phase and detector.
-    fn put(self, current: u16, phase: Phase, detector: BlackHoleDetector) -> MtuDiscovery
-        ensures { λ r. ⌜ r ≡ put self current phase detector ⌝ }
+    // The record with another MTU, phase and detector, and the value.
+    fn put(self, current: u16, phase: Phase, detector: BlackHoleDetector, value: u16) -> Done
+        ensures { λ r. ⌜ r ≡ done (put self current phase detector) value ⌝ }
     {
         let config = self.config;
-        MtuDiscovery {
+        let m = MtuDiscovery {
             current,
             phase,
             told: self.told,
             peer: self.peer,
             config,
             detector,
+        };
+        Done {
+            answer: OK,
+            value,
+            mtud: m,
         }
     }
 

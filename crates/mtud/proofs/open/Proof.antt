@@ -10,8 +10,11 @@ least-requires c κs = tt
 new-requires : tie.Need-new-requires
 new-requires c κs = tt
 
+done-requires : tie.Need-done-requires
+done-requires c κs = tt
+
 returns : tie.Need-returns
 returns c = search (needs, open-is)
 
 pub open-spec : {M : Type 1} → statement M
-open-spec = tie.close (tie.spec least-requires new-requires returns)
+open-spec = tie.close (tie.spec least-requires new-requires done-requires returns)

@@ -19,9 +19,6 @@ good-requires c κs = tt
 open-requires : tie.Need-open-requires
 open-requires c κs = tt
 
-done-requires : tie.Need-done-requires
-done-requires c κs = tt
-
 returns : tie.Need-returns
 returns c = search (needs, starts)
 
@@ -43,7 +40,6 @@ start-spec =
     is-size-requires-3
     good-requires
     open-requires
-    done-requires
     returns
     blank-requires
     refuse-requires

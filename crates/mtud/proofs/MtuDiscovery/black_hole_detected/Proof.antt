@@ -19,9 +19,6 @@ returns c = search (needs, holes)
 put-requires : tie.Need-put-requires
 put-requires c κs = tt
 
-done-requires : tie.Need-done-requires
-done-requires c κs = tt
-
 returns-2 : tie.Need-returns-2
 returns-2 c = search (needs, holes)
 
@@ -40,7 +37,6 @@ black-hole-detected-spec =
     fall-requires
     returns
     put-requires
-    done-requires
     returns-2
     refuse-requires
     returns-3)

@@ -10,12 +10,9 @@ on-non-probe-acked-requires c κs = tt
 put-requires : tie.Need-put-requires
 put-requires c κs = tt
 
-done-requires : tie.Need-done-requires
-done-requires c κs = tt
-
 returns : tie.Need-returns
 returns c = search (needs, other-is)
 
 pub deliver-other-spec : {M : Type 1} → statement M
 deliver-other-spec =
-    tie.close (tie.spec on-non-probe-acked-requires put-requires done-requires returns)
+    tie.close (tie.spec on-non-probe-acked-requires put-requires returns)

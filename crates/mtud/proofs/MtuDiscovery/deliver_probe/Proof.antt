@@ -13,13 +13,10 @@ on-acked-requires c κs = tt
 put-requires : tie.Need-put-requires
 put-requires c κs = tt
 
-done-requires : tie.Need-done-requires
-done-requires c κs = tt
-
 returns : tie.Need-returns
 returns c = search (needs, probe-is)
 
 pub deliver-probe-spec : {M : Type 1} → statement M
 deliver-probe-spec =
     tie.close
-    (tie.spec on-probe-acked-requires on-acked-requires put-requires done-requires returns)
+    (tie.spec on-probe-acked-requires on-acked-requires put-requires returns)

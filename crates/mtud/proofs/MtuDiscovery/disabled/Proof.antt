@@ -16,9 +16,6 @@ none-requires c κs = tt
 open-requires : tie.Need-open-requires
 open-requires c κs = tt
 
-done-requires : tie.Need-done-requires
-done-requires c κs = tt
-
 returns : tie.Need-returns
 returns c = search (needs, disables)
 
@@ -39,7 +36,6 @@ disabled-spec =
     is-size-requires-2
     none-requires
     open-requires
-    done-requires
     returns
     blank-requires
     refuse-requires

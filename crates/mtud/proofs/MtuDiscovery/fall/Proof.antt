@@ -13,9 +13,6 @@ off-requires c κs = tt
 put-requires : tie.Need-put-requires
 put-requires c κs = tt
 
-done-requires : tie.Need-done-requires
-done-requires c κs = tt
-
 returns : tie.Need-returns
 returns c = search (needs, falls)
 
@@ -32,7 +29,6 @@ fall-spec =
     least-requires
     off-requires
     put-requires
-    done-requires
     returns
     rest-requires
     returns-2)

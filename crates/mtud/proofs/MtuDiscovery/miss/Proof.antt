@@ -13,29 +13,26 @@ on-lost-requires c κs = tt
 put-requires : tie.Need-put-requires
 put-requires c κs = tt
 
-done-requires : tie.Need-done-requires
-done-requires c κs = tt
-
 refuse-requires : tie.Need-refuse-requires
 refuse-requires c κs = tt
 
 enum-told : tie.Need-enum-told
 enum-told c = search needs
 
-done-requires-2 : tie.Need-done-requires-2
-done-requires-2 c κs = tt
+done-requires : tie.Need-done-requires
+done-requires c κs = tt
 
 enum-told-2 : tie.Need-enum-told-2
 enum-told-2 c = search needs
 
-done-requires-3 : tie.Need-done-requires-3
-done-requires-3 c κs = tt
+done-requires-2 : tie.Need-done-requires-2
+done-requires-2 c κs = tt
 
 enum-told-3 : tie.Need-enum-told-3
 enum-told-3 c = search needs
 
-done-requires-4 : tie.Need-done-requires-4
-done-requires-4 c κs = tt
+done-requires-3 : tie.Need-done-requires-3
+done-requires-3 c κs = tt
 
 returns : tie.Need-returns
 returns c = search (needs, misses)
@@ -59,14 +56,13 @@ miss-spec =
     enum-known-phase
     on-lost-requires
     put-requires
-    done-requires
     refuse-requires
     enum-told
-    done-requires-2
+    done-requires
     enum-told-2
-    done-requires-3
+    done-requires-2
     enum-told-3
-    done-requires-4
+    done-requires-3
     returns
     returns-2
     returns-3

@@ -22,9 +22,6 @@ on-non-probe-lost-requires c κs = tt
 put-requires : tie.Need-put-requires
 put-requires c κs = tt
 
-done-requires : tie.Need-done-requires
-done-requires c κs = tt
-
 returns-2 : tie.Need-returns-2
 returns-2 c = search (needs, losses)
 
@@ -44,7 +41,6 @@ on-non-probe-lost-spec =
     returns
     on-non-probe-lost-requires
     put-requires
-    done-requires
     returns-2
     refuse-requires-2
     returns-3)

@@ -19,9 +19,6 @@ restart-requires c κs = tt
 open-requires : tie.Need-open-requires
 open-requires c κs = tt
 
-done-requires : tie.Need-done-requires
-done-requires c κs = tt
-
 returns : tie.Need-returns
 returns c = search (needs, resets)
 
@@ -40,7 +37,6 @@ reset-spec =
     is-size-requires-2
     restart-requires
     open-requires
-    done-requires
     returns
     refuse-requires
     returns-2)

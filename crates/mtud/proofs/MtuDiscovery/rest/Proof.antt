@@ -8,17 +8,14 @@ use Rattle.mtud.proofs.MtuDiscovery.rest.Tie as tie
 sub-if1 : tie.Need-sub-if1
 sub-if1 c = search needs
 
-add-t10 : tie.Need-add-t10
-add-t10 c = search needs
+add-until : tie.Need-add-until
+add-until c = search needs
 
 put-requires : tie.Need-put-requires
 put-requires c κs = tt
 
-done-requires : tie.Need-done-requires
-done-requires c κs = tt
-
 returns : tie.Need-returns
-returns c = rest-fine _ _ _ _ _ _ (omega arith) (c .before .put .ensures) (c .done .ensures)
+returns c = rest-fine _ _ _ _ _ _ (omega arith) (c .put .ensures)
 
 refuse-requires : tie.Need-refuse-requires
 refuse-requires c κs = tt
@@ -29,4 +26,4 @@ returns-2 c = rest-refused _ _ _ _ _ _ (omega arith) (c .refuse .ensures)
 pub rest-spec : {M : Type 1} → statement M
 rest-spec =
     tie.close
-    (tie.spec sub-if1 add-t10 put-requires done-requires returns refuse-requires returns-2)
+    (tie.spec sub-if1 add-until put-requires returns refuse-requires returns-2)

@@ -19,9 +19,6 @@ enum-known-t c = search needs
 put-requires : tie.Need-put-requires
 put-requires c κs = tt
 
-done-requires-2 : tie.Need-done-requires-2
-done-requires-2 c κs = tt
-
 enum-told-2 : tie.Need-enum-told-2
 enum-told-2 c = search needs
 
@@ -46,7 +43,6 @@ turn-spec =
     done-requires
     enum-known-t
     put-requires
-    done-requires-2
     enum-told-2
     rest-requires
     returns
