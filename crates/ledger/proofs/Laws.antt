@@ -1,8 +1,10 @@
 -- One law for each return: what the calls before it promise is what the definition says. Assumes nothing.
 use mathlib.Core.Path.{_≡_}
+use mathlib.Core.Bool.{true, false, _||_}
 use mathlib.Core.List.{List}
 use Prim.Native.Nat.{ℕ, _≤_, _<_, _/_}
-use borrow.Author.Tests.{lt-ltb, le-ltb, eq-eqb, ne-eqb}
+use borrow.Author.Tests.{lt-ltb, le-ltb}
+use lib.Dec.{eqb, ltb}
 use Rattle.answers.specs.Answers.{OK}
 use Rattle.codes.specs.Codes.{CT_EQ}
 use Rattle.events.specs.declared.Event.{Event}
@@ -37,26 +39,22 @@ module _ (e : Event) (ns bs x : List ℕ) (s : State) (m l : List ℕ) where
   step-none h = rw (lt-ltb (e .code) CT_EQ h)
 
   module _ (h : CT_EQ ≤ e .code) where
-    pub step-low : {r : State} {x′ l′ : List ℕ} → e .code / 16 < 4 → leafed r x′ l′ ≡ leafOf e ns bs x (withCode s (e .code)) l
-        → stepped r x′ m l′ ≡ stepOf e ns bs x s m l
-    unfolding stepOf eventOf
-    step-low f g = rw (le-ltb (e .code) CT_EQ h, lt-ltb (e .code / 16) 4 f, ← g)
-
-    pub step-lists : {p : Lists} {m′ l′ : List ℕ} → 4 ≤ e .code / 16 → e .code / 16 < 7
-        → lists.listed p m′ l′ ≡ lists.stepOf (e .code / 16) (e .code) (e .count) ns (s .lists) m l
-        → stepped (withLists (withCode s (e .code)) p) x m′ l′ ≡ stepOf e ns bs x s m l
-    unfolding stepOf eventOf
-    step-lists f g k = rw (le-ltb (e .code) CT_EQ h, le-ltb (e .code / 16) 4 f, lt-ltb (e .code / 16) 7 g, ← k)
-
-    pub step-seven : {r : State} {x′ l′ : List ℕ} → 4 ≤ e .code / 16 → 7 ≤ e .code / 16 → e .code / 16 ≡ 7
+    pub step-leaf : {r : State} {x′ l′ : List ℕ} → (ltb (e .code / 16) 4 || eqb (e .code / 16) 7) ≡ true
         → leafed r x′ l′ ≡ leafOf e ns bs x (withCode s (e .code)) l → stepped r x′ m l′ ≡ stepOf e ns bs x s m l
     unfolding stepOf eventOf
-    step-seven f g k c = rw (le-ltb (e .code) CT_EQ h, le-ltb (e .code / 16) 4 f, le-ltb (e .code / 16) 7 g, eq-eqb (e .code / 16) 7 k, ← c)
+    step-leaf f g = rw (le-ltb (e .code) CT_EQ h, f, ← g)
 
-    pub step-peers : {p : Peers} {m′ : List ℕ} → 4 ≤ e .code / 16 → 7 ≤ e .code / 16 → (e .code / 16 ≡ 7 → ⊥)
-        → peers.peered p m′ ≡ peers.stepOf (e .code / 16) (e .code) (e .first) (e .size) ns bs (s .peers) m
-        → stepped (withPeers (withCode s (e .code)) p) x m′ l ≡ stepOf e ns bs x s m l
-    unfolding stepOf eventOf
-    step-peers f g k c = rw (le-ltb (e .code) CT_EQ h, le-ltb (e .code / 16) 4 f, le-ltb (e .code / 16) 7 g, ne-eqb (e .code / 16) 7 k, ← c)
+    module _ (n : (ltb (e .code / 16) 4 || eqb (e .code / 16) 7) ≡ false) where
+      pub step-lists : {p : Lists} {m′ l′ : List ℕ} → e .code / 16 < 7
+          → lists.listed p m′ l′ ≡ lists.stepOf (e .code / 16) (e .code) (e .count) ns (s .lists) m l
+          → stepped (withLists (withCode s (e .code)) p) x m′ l′ ≡ stepOf e ns bs x s m l
+      unfolding stepOf eventOf
+      step-lists g k = rw (le-ltb (e .code) CT_EQ h, n, lt-ltb (e .code / 16) 7 g, ← k)
 
-pub ruleset laws = (begins, leaf-in, step-none, step-low, step-lists, step-seven, step-peers)
+      pub step-peers : {p : Peers} {m′ : List ℕ} → 7 ≤ e .code / 16
+          → peers.peered p m′ ≡ peers.stepOf (e .code / 16) (e .code) (e .first) (e .size) ns bs (s .peers) m
+          → stepped (withPeers (withCode s (e .code)) p) x m′ l ≡ stepOf e ns bs x s m l
+      unfolding stepOf eventOf
+      step-peers g k = rw (le-ltb (e .code) CT_EQ h, n, le-ltb (e .code / 16) 7 g, ← k)
+
+pub ruleset laws = (begins, leaf-in, step-none, step-leaf, step-lists, step-peers)

@@ -3,7 +3,7 @@
 -- the range set's list, the recorder's and the table of streams, `l` is the lent list and `x` the lent scratch.
 -- Assumes nothing.
 use Prim.Native.Nat.{ℕ, _/_}
-use mathlib.Core.Bool.{cond}
+use mathlib.Core.Bool.{cond, _||_}
 use mathlib.Core.List.{List}
 use lib.Dec.{eqb, ltb}
 use Rattle.answers.specs.Answers.{OK}
@@ -75,10 +75,9 @@ fromPeers s x l d = stepped (withPeers s (d .out)) x (d .memory) l
 -- of the module k: 1 to 3 and 7 have no state, 4 to 6 are of the lists, the others of the peer
 unfoldable pub eventOf : ℕ → Event → List ℕ → List ℕ → List ℕ → State → List ℕ → List ℕ → Stepped
 eventOf k e ns bs x s m l =
-    cond (ltb k 4) (fromLeaf m (leafOf e ns bs x s l))
+    cond (ltb k 4 || eqb k 7) (fromLeaf m (leafOf e ns bs x s l))
     (cond (ltb k 7) (fromLists s x (lists.stepOf k (e .code) (e .count) ns (s .lists) m l))
-    (cond (eqb k 7) (fromLeaf m (leafOf e ns bs x s l))
-    (fromPeers s x l (peers.stepOf k (e .code) (e .first) (e .size) ns bs (s .peers) m))))
+    (fromPeers s x l (peers.stepOf k (e .code) (e .first) (e .size) ns bs (s .peers) m)))
 
 -- what is no event has a code below the first, and leaves all as it was
 unfoldable pub stepOf : Event → List ℕ → List ℕ → List ℕ → State → List ℕ → List ℕ → Stepped

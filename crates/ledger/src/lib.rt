@@ -74,16 +74,13 @@ pub fn step(
     }
     s.code = code;
     let kind = code / 16;
-    if kind < 4 {
+    if (kind < 4) | (kind == 7) {
         return leaf(e, numbers, bytes, scratch, s, list);
     }
     if kind < 7 {
         let l = ledger_lists::step(kind, code, e.count, numbers, s.lists, memory, list);
         s.lists = l;
         return s;
-    }
-    if kind == 7 {
-        return leaf(e, numbers, bytes, scratch, s, list);
     }
     let p = ledger_peers::step(kind, code, e.first, e.size, numbers, bytes, s.peers, memory);
     s.peers = p;

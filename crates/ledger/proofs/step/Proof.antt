@@ -19,17 +19,11 @@ step-requires c κs = search needs
 returns-3 : tie.Need-returns-3
 returns-3 c = search (needs, laws)
 
-leaf-requires-2 : tie.Need-leaf-requires-2
-leaf-requires-2 c κs = search needs
-
-returns-4 : tie.Need-returns-4
-returns-4 c = search (needs, laws)
-
 step-requires-2 : tie.Need-step-requires-2
 step-requires-2 c κs = search needs
 
-returns-5 : tie.Need-returns-5
-returns-5 c = search (needs, laws)
+returns-4 : tie.Need-returns-4
+returns-4 c = search (needs, laws)
 
 pub step-spec : {M : Type 1} → statement M
 step-spec =
@@ -40,7 +34,5 @@ step-spec =
     returns-2
     step-requires
     returns-3
-    leaf-requires-2
-    returns-4
     step-requires-2
-    returns-5)
+    returns-4)
