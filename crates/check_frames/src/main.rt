@@ -8,20 +8,17 @@ pub struct Kept {
     pub at: usize,
 }
 
-fn wide(n: usize) -> u64 {
-    n as u64
-}
-
 // The line of a frame: into a list of 64 ranges.
 fn show(frame: &[u8], list: &mut [u64], out: &mut [u8; 65536], at: &mut usize) {
     let a = ack_frame::read(frame, list);
     say_answer::name(out, at, a.answer);
     if a.answer == answers::OK {
-        out::text(out, at, b" taken");
-        say::value(out, at, wide(a.taken));
-        out::text(out, at, b" delay");
-        say::value(out, at, a.delay);
-        out::text(out, at, b" ranges");
+        say::form(
+            out,
+            at,
+            b" taken % delay % ranges",
+            &[a.taken as u64, a.delay],
+        );
         say::ranges(out, at, list, a.count);
     }
     say::end(out, at);

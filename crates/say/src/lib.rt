@@ -1,52 +1,58 @@
 // What the programs print of an answer: its values, ranges, byte strings, and the line for what is no event (docs/EVENTS.md).
+ghost use Prim.Native.Nat.{_≤_};
+ghost use lib.ListN.{length};
 use said::Said;
 
-// A space and a number.
-pub fn value(buf: &mut [u8; 65536], at: &mut usize, n: u64) {
-    out::text(buf, at, b" ");
-    out::number(buf, at, n);
-}
-
-// A name and a number.
-pub fn named(buf: &mut [u8; 65536], at: &mut usize, name: &[u8], n: u64) {
-    out::text(buf, at, name);
-    out::number(buf, at, n);
-}
-
-// A name and its number, `-` where there is none.
-pub fn known(buf: &mut [u8; 65536], at: &mut usize, name: &[u8], known: bool, n: u64) {
-    out::text(buf, at, name);
-    if known {
-        out::number(buf, at, n);
-        return;
+// Where the text from i on ends: at the next `%`, or with the form.
+fn text_end(form: &[u8], i: usize) -> usize
+    requires { ⌜ i ≤ length (now form) ⌝ }
+    ensures { λ r. ⌜ (i ≤ r) × (r ≤ length (now (form .entry))) ⌝ }
+{
+    let mut end = i;
+    while end < form.len() {
+        if form[end] == b'%' {
+            return end;
+        }
+        end += 1;
     }
-    out::text(buf, at, b"-");
+    end
 }
 
-// A name and two numbers with a comma between.
-pub fn pair(buf: &mut [u8; 65536], at: &mut usize, name: &[u8], a: u64, b: u64) {
-    named(buf, at, name, a);
-    named(buf, at, b",", b);
+// A form, each `%` of it as the next of the values; nothing where they have run out.
+pub fn form(buf: &mut [u8; 65536], at: &mut usize, form: &[u8], values: &[u64]) {
+    let mut i = 0;
+    let mut k = 0;
+    while i < form.len() {
+        let end = text_end(form, i);
+        out::text(buf, at, &form[i..end]);
+        if end == form.len() {
+            return;
+        }
+        if k < values.len() {
+            out::number(buf, at, values[k]);
+        }
+        i = end + 1;
+        k += 1;
+    }
 }
 
-// An answer and its values; a refusal has none.
+// How much of the form of three values an answer has; a refusal has none.
+fn values_end(answer: u8, count: usize) -> usize
+    ensures { λ r. ⌜ r ≤ 6 ⌝ }
+{
+    if answer != answers::OK {
+        return 0;
+    }
+    if count < 3 { 2 * count } else { 6 }
+}
+
+// An answer and its values.
 pub fn all(buf: &mut [u8; 65536], at: &mut usize, s: Said) {
     say_answer::name(buf, at, s.answer);
-    if s.answer != answers::OK {
-        return;
-    }
-    if s.count == 0 {
-        return;
-    }
-    value(buf, at, s.a);
-    if s.count == 1 {
-        return;
-    }
-    value(buf, at, s.b);
-    if s.count == 2 {
-        return;
-    }
-    value(buf, at, s.c);
+    let end = values_end(s.answer, s.count);
+    let three: &[u8] = b" % % %";
+    let values = [s.a, s.b, s.c];
+    form(buf, at, &three[0..end], &values);
 }
 
 // A byte string in hex, `-` for none.
@@ -80,11 +86,6 @@ pub fn ranges(buf: &mut [u8; 65536], at: &mut usize, list: &[u64], count: usize)
     }
 }
 
-// What stands between the values and the state.
-pub fn bar(buf: &mut [u8; 65536], at: &mut usize) {
-    out::text(buf, at, b" |");
-}
-
 // The end of a line.
 pub fn end(buf: &mut [u8; 65536], at: &mut usize) {
     out::text(buf, at, b"\n");
@@ -92,8 +93,7 @@ pub fn end(buf: &mut [u8; 65536], at: &mut usize) {
 
 // The line for what is no event.
 pub fn error(buf: &mut [u8; 65536], at: &mut usize, number: u64, what: &[u8]) {
-    named(buf, at, b"?? line ", number);
-    out::text(buf, at, b": ");
+    form(buf, at, b"?? line %: ", &[number]);
     out::text(buf, at, what);
     end(buf, at);
 }

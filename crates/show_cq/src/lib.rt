@@ -11,11 +11,6 @@ fn show_id(id: &[u8; 20], len: usize, buf: &mut [u8; 65536], at: &mut usize) {
     }
 }
 
-// A token.
-fn show_token(token: &[u8; 16], buf: &mut [u8; 65536], at: &mut usize) {
-    out::hex(buf, at, token);
-}
-
 // The values: nothing, numbers and a token, a number and an id, or yes and no.
 fn show_values(g: Gave, buf: &mut [u8; 65536], at: &mut usize) {
     let said = g.said;
@@ -24,22 +19,20 @@ fn show_values(g: Gave, buf: &mut [u8; 65536], at: &mut usize) {
         return;
     }
     if g.retired {
-        say::range(buf, at, said.a, said.b);
-        out::text(buf, at, b" ");
+        say::form(buf, at, b" %..% ", &[said.a, said.b]);
         let token = g.token;
-        show_token(&token, buf, at);
+        out::hex(buf, at, &token);
         return;
     }
     if g.named {
-        say::value(buf, at, said.a);
-        out::text(buf, at, b" ");
+        say::form(buf, at, b" % ", &[said.a]);
         let id = g.id;
         let len = g.len;
         show_id(&id, len, buf, at);
         return;
     }
     if said.count == 1 {
-        say::value(buf, at, said.a);
+        say::form(buf, at, b" %", &[said.a]);
     }
 }
 
@@ -48,15 +41,14 @@ fn show_entry(e: Entry, buf: &mut [u8; 65536], at: &mut usize) {
     if e.answer != answers::OK {
         return;
     }
-    say::value(buf, at, e.seq);
-    out::text(buf, at, b":");
+    say::form(buf, at, b" %:", &[e.seq]);
     let id = e.id;
     let len = e.len;
     show_id(&id, len, buf, at);
     out::text(buf, at, b"/");
     if e.known {
         let token = e.token;
-        show_token(&token, buf, at);
+        out::hex(buf, at, &token);
         return;
     }
     out::text(buf, at, b"-");
@@ -64,7 +56,7 @@ fn show_entry(e: Entry, buf: &mut [u8; 65536], at: &mut usize) {
 
 fn show_queue(q: CidQueue, buf: &mut [u8; 65536], at: &mut usize) {
     let n = q.active_seq();
-    say::value(buf, at, n.seq);
+    say::form(buf, at, b" | %", &[n.seq]);
     show_entry(q.entry(0), buf, at);
     show_entry(q.entry(1), buf, at);
     show_entry(q.entry(2), buf, at);
@@ -75,12 +67,11 @@ fn show_queue(q: CidQueue, buf: &mut [u8; 65536], at: &mut usize) {
 // The line of an event.
 pub fn show(g: Gave, buf: &mut [u8; 65536], at: &mut usize) {
     show_values(g, buf, at);
-    say::bar(buf, at);
     let k = g.kept;
     if k.has {
         let q = k.queue;
         show_queue(q, buf, at);
         return;
     }
-    out::text(buf, at, b" -");
+    out::text(buf, at, b" | -");
 }

@@ -1,42 +1,55 @@
 // What the line of an event of the MTU search says of its black-hole detector (docs/EVENTS.md).
+ghost use Prim.Native.Nat.{_≤_};
 use black_hole::BlackHoleDetector;
 use black_hole::Bursts;
-use black_hole::CurrentLossBurst;
 
-// The k-th burst kept, a comma before all but the first.
-fn show_burst(size: u16, k: usize, count: usize, buf: &mut [u8; 65536], at: &mut usize) {
-    if count <= k {
-        return;
+// How much of the form of four bursts is that of so many.
+fn bursts_end(count: usize) -> usize
+    ensures { λ r. ⌜ r ≤ 16 ⌝ }
+{
+    match count {
+        0 => 9,
+        1 => 10,
+        2 => 12,
+        3 => 14,
+        _ => 16,
     }
-    if 0 < k {
-        out::text(buf, at, b",");
-    }
-    out::number(buf, at, size as u64);
 }
 
+// The bursts kept.
 fn show_bursts(b: Bursts, buf: &mut [u8; 65536], at: &mut usize) {
     let sizes = b.sizes;
-    let count = b.count;
-    out::text(buf, at, b" bursts=[");
-    show_burst(sizes[0], 0, count, buf, at);
-    show_burst(sizes[1], 1, count, buf, at);
-    show_burst(sizes[2], 2, count, buf, at);
-    show_burst(sizes[3], 3, count, buf, at);
+    let end = bursts_end(b.count);
+    let four: &[u8] = b" bursts=[%,%,%,%";
+    let values = [
+        sizes[0] as u64,
+        sizes[1] as u64,
+        sizes[2] as u64,
+        sizes[3] as u64,
+    ];
+    say::form(buf, at, &four[0..end], &values);
 }
 
-// The burst being gathered.
-fn show_current(c: CurrentLossBurst, buf: &mut [u8; 65536], at: &mut usize) {
-    say::known(buf, at, b"] cur=", c.has, c.latest);
+// The burst being gathered, if any, and what the detector knows.
+fn show_rest(d: BlackHoleDetector, buf: &mut [u8; 65536], at: &mut usize) {
+    let c = d.current;
     if c.has {
-        say::named(buf, at, b":", c.smallest as u64);
+        let values = [
+            c.latest,
+            c.smallest as u64,
+            d.post,
+            d.acked as u64,
+            d.minimum as u64,
+        ];
+        say::form(buf, at, b"] cur=%:% post=% acked=% min=%", &values);
+        return;
     }
+    let values = [d.post, d.acked as u64, d.minimum as u64];
+    say::form(buf, at, b"] cur=- post=% acked=% min=%", &values);
 }
 
-// The bursts kept, the one being gathered, and what the detector knows.
+// The detector.
 pub fn show(d: BlackHoleDetector, buf: &mut [u8; 65536], at: &mut usize) {
     show_bursts(d.bursts, buf, at);
-    show_current(d.current, buf, at);
-    say::named(buf, at, b" post=", d.post);
-    say::named(buf, at, b" acked=", d.acked as u64);
-    say::named(buf, at, b" min=", d.minimum as u64);
+    show_rest(d, buf, at);
 }

@@ -7,8 +7,7 @@ pub fn window(n: Noted, buf: &mut [u8; 65536], at: &mut usize) {
     let said = n.said;
     let d = n.dedup;
     say::all(buf, at, said);
-    say::bar(buf, at);
-    say::named(buf, at, b" next=", d.next());
+    say::form(buf, at, b" | next=%", &[d.next()]);
 }
 
 // A set's line: a popped range and the parts of a replace print as ranges.
@@ -27,6 +26,6 @@ pub fn set(d: Did, code: u8, list: &[u64], parts: &[u64], buf: &mut [u8; 65536],
             }
         }
     }
-    say::bar(buf, at);
+    out::text(buf, at, b" |");
     say::ranges(buf, at, list, d.count);
 }
