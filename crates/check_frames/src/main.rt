@@ -47,7 +47,7 @@ fn check(
     }
     let end = b.end;
     if end <= frame.len() {
-        show(&frame[..end], list, out, at);
+        show(&frame[0..end], list, out, at);
     }
 }
 
@@ -73,11 +73,8 @@ fn turn(
             &mut at,
         );
     }
-    if kind == lines::LONG {
-        say::unread(out, &mut at, feed.number, true);
-    }
-    if kind == lines::FAILED {
-        say::unread(out, &mut at, feed.number, false);
+    if (kind == lines::LONG) | (kind == lines::FAILED) {
+        say::unread(out, &mut at, feed.number, kind == lines::LONG);
     }
     k.at = at;
     k

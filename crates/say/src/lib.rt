@@ -1,4 +1,4 @@
-// What the programs print of an answer: its values, ranges, byte strings, and the line for what is no event (docs/EVENTS.md).
+// What the programs print: forms with their numbers, an answer's values, ranges, byte strings, and the line for what is no event (docs/EVENTS.md).
 ghost use Prim.Native.Nat.{_≤_};
 ghost use lib.ListN.{length};
 use said::Said;
@@ -18,7 +18,7 @@ fn text_end(form: &[u8], i: usize) -> usize
     end
 }
 
-// A form, each `%` of it as the next of the values; nothing where they have run out.
+// A form, each `%` of it as the next of the values, nothing where they have run out. A line is one call: each that lends the buffer costs a check.
 pub fn form(buf: &mut [u8; 65536], at: &mut usize, form: &[u8], values: &[u64]) {
     let mut i = 0;
     let mut k = 0;

@@ -7,7 +7,7 @@ use drive_cq::Gave;
 fn show_id(id: &[u8; 20], len: usize, buf: &mut [u8; 65536], at: &mut usize) {
     let s: &[u8] = id;
     if len <= s.len() {
-        say::bytes(buf, at, &s[..len]);
+        say::bytes(buf, at, &s[0..len]);
     }
 }
 
@@ -57,11 +57,11 @@ fn show_entry(e: Entry, buf: &mut [u8; 65536], at: &mut usize) {
 fn show_queue(q: CidQueue, buf: &mut [u8; 65536], at: &mut usize) {
     let n = q.active_seq();
     say::form(buf, at, b" | %", &[n.seq]);
-    show_entry(q.entry(0), buf, at);
-    show_entry(q.entry(1), buf, at);
-    show_entry(q.entry(2), buf, at);
-    show_entry(q.entry(3), buf, at);
-    show_entry(q.entry(4), buf, at);
+    let mut i = 0;
+    while i < 5 {
+        show_entry(q.entry(i), buf, at);
+        i += 1;
+    }
 }
 
 // The line of an event.

@@ -20,7 +20,7 @@ pub fn show(
         codes::VI_ENC | codes::PN_NEW | codes::AF_WRITE => {
             out::text(buf, at, b" ");
             if size <= scratch.len() {
-                say::bytes(buf, at, &scratch[..size]);
+                say::bytes(buf, at, &scratch[0..size]);
             }
         }
         codes::AF_READ => say::ranges(buf, at, list, g.ranges),
