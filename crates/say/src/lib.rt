@@ -18,7 +18,8 @@ fn text_end(form: &[u8], i: usize) -> usize
     end
 }
 
-// A form, each `%` of it as the next of the values, nothing where they have run out. A line is one call: each that lends the buffer costs a check.
+// A form, each `%` of it as the next of the values, nothing where they have run out. One call for many numbers, as each that lends the buffer adds to the
+// time that a check takes.
 pub fn form(buf: &mut [u8; 65536], at: &mut usize, form: &[u8], values: &[u64]) {
     let mut i = 0;
     let mut k = 0;
