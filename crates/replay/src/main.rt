@@ -5,13 +5,45 @@ use lines::Feed;
 
 // The lent arrays' sizes are those of `ledger` and `lines`.
 
-// The error line of what is no event.
-fn refused(out: &mut [u8; 65536], at: &mut usize, number: u64, code: u8) {
-    if code == codes::UNKNOWN {
-        say::error(out, at, number, b"no such event");
-    } else {
-        say::error(out, at, number, b"words that do not fit the event");
+// What is said where there is no line: that it is too long, or that the input cannot be read on.
+fn unread(feed: Feed, out: &mut [u8; 65536], at: &mut usize) {
+    if (feed.kind == lines::LONG) | (feed.kind == lines::FAILED) {
+        say::unread(out, at, feed.number, feed.kind == lines::LONG);
     }
+}
+
+// No event: what a line without one comes to.
+fn none() -> Event {
+    Event {
+        code: codes::UNKNOWN,
+        count: 0,
+        first: 0,
+        size: 0,
+    }
+}
+
+// The event of the line that was found, if any. What is no event has its error line, a line with no word has none.
+fn event(
+    feed: Feed,
+    buf: &[u8; 65536],
+    numbers: &mut [u64; 32768],
+    bytes: &mut [u8; 65536],
+    out: &mut [u8; 65536],
+    at: &mut usize,
+) -> Event {
+    if feed.kind != lines::LINE {
+        unread(feed, out, at);
+        return none();
+    }
+    let words = text::without_note(lines::line(buf, feed));
+    if text::is_end(words, 0) {
+        return none();
+    }
+    let e = events::parse(words, numbers, bytes);
+    if e.code <= codes::UNFIT {
+        say::refused(out, at, feed.number, e.code == codes::UNFIT);
+    }
+    e
 }
 
 // What an event does; apart from its line, as the two calls in one function take twice as long to check.
@@ -27,34 +59,7 @@ fn acted(
     ledger::step(e, numbers, bytes, scratch, s, memory, list)
 }
 
-// The answer of a line, or an error line; a line with no word has none.
-fn answer(
-    line: &[u8],
-    number: u64,
-    s: State,
-    numbers: &mut [u64; 32768],
-    bytes: &mut [u8; 65536],
-    scratch: &mut [u8; 65536],
-    memory: &mut [u64; 2432],
-    list: &mut [u64; 32768],
-    out: &mut [u8; 65536],
-    at: &mut usize,
-) -> State {
-    let words = text::without_note(line);
-    if text::is_end(words, 0) {
-        return s;
-    }
-    let e = events::parse(words, numbers, bytes);
-    if e.code <= codes::UNFIT {
-        refused(out, at, number, e.code);
-        return s;
-    }
-    let after = acted(e, s, numbers, bytes, scratch, memory, list);
-    show::show(after, scratch, memory, list, out, at);
-    after
-}
-
-// What comes of one call for the next line.
+// What comes of one call for the next line: its event and the event's line, where there is one.
 fn turn(
     feed: Feed,
     buf: &[u8; 65536],
@@ -67,26 +72,13 @@ fn turn(
     out: &mut [u8; 65536],
     at: &mut usize,
 ) -> State {
-    let number = feed.number;
-    if feed.kind == lines::LINE {
-        let line = lines::line(buf, feed);
-        return answer(
-            line,
-            number,
-            s,
-            numbers,
-            bytes,
-            scratch,
-            memory,
-            list,
-            out,
-            at,
-        );
+    let e = event(feed, buf, numbers, bytes, out, at);
+    if e.code <= codes::UNFIT {
+        return s;
     }
-    if (feed.kind == lines::LONG) | (feed.kind == lines::FAILED) {
-        say::unread(out, at, number, feed.kind == lines::LONG);
-    }
-    s
+    let after = acted(e, s, numbers, bytes, scratch, memory, list);
+    show::show(after, scratch, memory, list, out, at);
+    after
 }
 
 // What is left to write is written; a write that failed is told.

@@ -99,6 +99,15 @@ pub fn error(buf: &mut [u8; 65536], at: &mut usize, number: u64, what: &[u8]) {
     end(buf, at);
 }
 
+// The line for a line that is no event: its name is known and its words do not fit, or its name is not known.
+pub fn refused(buf: &mut [u8; 65536], at: &mut usize, number: u64, known: bool) {
+    if known {
+        error(buf, at, number, b"words that do not fit the event");
+    } else {
+        error(buf, at, number, b"no such event");
+    }
+}
+
 // The line for a line that could not be taken in: it is too long, or the input ends in an error.
 pub fn unread(buf: &mut [u8; 65536], at: &mut usize, number: u64, long: bool) {
     if long {
