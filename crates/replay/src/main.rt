@@ -5,13 +5,6 @@ use lines::Feed;
 
 // The lent arrays' sizes are those of `ledger` and `lines`.
 
-// What is said where there is no line: that it is too long, or that the input cannot be read on.
-fn unread(feed: Feed, out: &mut [u8; 65536], at: &mut usize) {
-    if (feed.kind == lines::LONG) | (feed.kind == lines::FAILED) {
-        say::unread(out, at, feed.number, feed.kind == lines::LONG);
-    }
-}
-
 // No event: what a line without one comes to.
 fn none() -> Event {
     Event {
@@ -32,7 +25,9 @@ fn event(
     at: &mut usize,
 ) -> Event {
     if feed.kind != lines::LINE {
-        unread(feed, out, at);
+        if (feed.kind == lines::LONG) | (feed.kind == lines::FAILED) {
+            say::unread(out, at, feed.number, feed.kind == lines::LONG);
+        }
         return none();
     }
     let words = text::without_note(lines::line(buf, feed));
@@ -44,19 +39,6 @@ fn event(
         say::refused(out, at, feed.number, e.code == codes::UNFIT);
     }
     e
-}
-
-// What an event does; apart from its line, as the two calls in one function take twice as long to check.
-fn acted(
-    e: Event,
-    s: State,
-    numbers: &[u64; 32768],
-    bytes: &[u8; 65536],
-    scratch: &mut [u8; 65536],
-    memory: &mut [u64; 2432],
-    list: &mut [u64; 32768],
-) -> State {
-    ledger::step(e, numbers, bytes, scratch, s, memory, list)
 }
 
 // What comes of one call for the next line: its event and the event's line, where there is one.
@@ -76,7 +58,7 @@ fn turn(
     if e.code <= codes::UNFIT {
         return s;
     }
-    let after = acted(e, s, numbers, bytes, scratch, memory, list);
+    let after = ledger::step(e, numbers, bytes, scratch, s, memory, list);
     show::show(after, scratch, memory, list, out, at);
     after
 }
