@@ -8,7 +8,7 @@ use libc::STDOUT_FILENO;
 use range_edit::Changed;
 use range_edit::Replaced;
 
-// 5 calls, 64 sets, 64 second sets or ranges, 5 capacities.
+// 5 calls, 64 sets, 64 second sets or ranges, 5 capacities. In 35,840 of them the set has more ranges than places, and there is nothing to try.
 const CASES: u64 = 102400;
 
 // No answer of any call: the lists here are never too short.
@@ -280,7 +280,7 @@ fn greater(a: usize, b: usize) -> usize {
     if a < b { b } else { a }
 }
 
-// One more wrong case, or not; a set with no room in these places is no case.
+// One more wrong case, or not; a set with no room in these places is never wrong.
 fn count_wrong(wrong: u64, c: u64) -> u64 {
     let k = case_of(c);
     if k.places < size(k.set) {
