@@ -115,11 +115,11 @@ onward-fine lower upper last change n current peer a b c d e f g = by (eqb (chos
         let z = chosen-between lower upper last change _ (choice lower upper last change) b c e (eqb-false _ _ h) in
         sent-fine lower upper _ n 0 current peer a (z .0) (z .1) d (omega arith) f g
 
-known-acked : (s : SearchState) → s .flying ≡ false → eqb (s .lost) 0 ≡ true → known s ≡ s .last
+pub known-acked : (s : SearchState) → s .flying ≡ false → eqb (s .lost) 0 ≡ true → known s ≡ s .last
 unfolding known
 known-acked s e f = rw (e, f)
 
-known-lost : (s : SearchState) → s .flying ≡ false → eqb (s .lost) 0 ≡ false → known s ≡ s .lower
+pub known-lost : (s : SearchState) → s .flying ≡ false → eqb (s .lost) 0 ≡ false → known s ≡ s .lower
 unfolding known
 known-lost s e f = rw (e, f)
 

@@ -1,4 +1,9 @@
 pub mod Laws
 pub mod Kept
+pub mod Levels
 pub mod Measure
+pub mod Counts
+pub mod History
+pub mod Distance
+pub mod Attained
 pub mod Determined

@@ -1,135 +1,105 @@
--- A search ends, whatever is acknowledged and lost: each new size takes one off `sizesIn`, each probe one off `probesIn`, and after the first probe those are
--- at most 16 and 50. Halving a width takes one level off it; the upper bound is tried only where the count apart is 1, and then it is 0. Assumes nothing.
-use mathlib.Core.Path.{_≡_, refl, ap, sym, _∙_}
+-- A search ends, whatever is acknowledged and lost: each new size takes one off `sizesIn`, each probe one off `probesIn`. A search whose bounds are w apart
+-- tries at most `sizesMost change w` sizes. By the three choices that a turn has (Kept, `Choice`). Assumes nothing.
+use mathlib.Core.Path.{_≡_, refl, ap}
 use mathlib.Core.Bool.{Bool, true, false, cond}
-use mathlib.Core.Logic.{_⊎_, inl, inr, ⊎-elim}
-use Prim.Native.Nat.{ℕ, zero, suc, _+_, _-_, _*_, _/_, _^_, _≤_, _<_, min, max}
+use mathlib.Core.Logic.{⊎-elim}
+use Prim.Native.Nat.{ℕ, suc, _+_, _-_, _*_, _/_, _≤_, _<_, min, max}
 use native.Mathlib.Omega.{arith}
-use native.Mathlib.Nat.{pow-suc}
-use lib.Dec.{eqb, ltb, leb}
-use lib.Pow.{pow-pos}
-use borrow.Author.Tests.{ltb-true, ltb-false, leb-true, leb-false, eqb-true, eqb-false, lt-ltb, le-ltb, le-leb, lt-leb, eq-eqb, ne-eqb}
+use lib.Dec.{eqb, ltb}
+use borrow.Author.Tests.{ltb-true, eqb-false, lt-ltb, le-ltb, ne-eqb}
+use Rattle.answers.proofs.Tests.{split}
 use Rattle.mtu_search.specs.declared.SearchState.{SearchState}
 use Rattle.mtu_search.specs.declared.Turn.{Turn}
 use Rattle.mtu_search.specs.declared.Turn.the-variants.{Waiting, Probing, Over}
-use Rattle.mtu_search.specs.Search.{begun, half, distance, chosen, sent, onward, turn, acked, missed, known}
-use Rattle.mtu_search.specs.Measure.{level, one, afterWon, afterLost, sizesLeft, triesLeft, sizesIn, probesIn}
-use Rattle.answers.proofs.Tests.{split}
-use Rattle.mtu_search.proofs.Kept.{Choice, nothing, middle, bound, choice, chosen-between, Fine}
-
--- ---- levels
-level-none : (w : ℕ) → level 0 w ≡ 0
-unfolding level
-level-none w = refl
-
-level-stop : (k w : ℕ) → w ≤ 1 → level (suc k) w ≡ 0
-unfolding level
-level-stop k w h = rw (le-leb w 1 h)
-
-level-step : (k w : ℕ) → 1 < w → level (suc k) w ≡ suc (level k ((w + 1) / 2))
-unfolding level
-level-step k w h = rw (lt-leb w 1 h)
-
-level-most : (k w : ℕ) → level k w ≤ k
-level-most zero w = omega (arith, level-none w)
-level-most (suc k) w =
-    ⊎-elim (λ h. omega (arith, level-step k w h, level-most k ((w + 1) / 2))) (λ h. omega (arith, level-stop k w h)) (split 1 w)
-
-level-mono : (k v w : ℕ) → v ≤ w → level k v ≤ level k w
-level-mono zero v w h = omega (arith, level-none v, level-none w)
-level-mono (suc k) v w h =
-    ⊎-elim
-    (λ a.
-    let b : 1 < w = omega arith in
-    let i : (v + 1) / 2 ≤ (w + 1) / 2 = omega arith in
-    let j : level k ((v + 1) / 2) ≤ level k ((w + 1) / 2) = level-mono k ((v + 1) / 2) ((w + 1) / 2) i in
-    omega (arith, level-step k v a, level-step k w b))
-    (λ a. omega (arith, level-stop k v a))
-    (split 1 v)
-
--- with room for the width, one turn more changes nothing
-level-more : (k w : ℕ) → w ≤ 2 ^ k → level (suc k) w ≡ level k w
-level-more zero w h = let a : w ≤ 1 = h in level-stop zero w a ∙ sym (level-none w)
-level-more (suc k) w h =
-    ⊎-elim
-    (λ a.
-    let e : 2 ^ suc k ≡ 2 * 2 ^ k = pow-suc 2 k ∙ omega arith in
-    let b : (w + 1) / 2 ≤ 2 ^ k = omega arith in
-    level-step (suc k) w a ∙ ap suc (level-more k ((w + 1) / 2) b) ∙ sym (level-step k w a))
-    (λ a. level-stop (suc k) w a ∙ sym (level-stop k w a))
-    (split 1 w)
-
-level-half : (w : ℕ) → 1 < w → w ≤ 65536 → suc (level 16 ((w + 1) / 2)) ≡ level 16 w
-level-half w a h =
-    let b : (w + 1) / 2 ≤ 2 ^ 15 = omega arith in
-    ap suc (level-more 15 ((w + 1) / 2) b) ∙ sym (level-step 15 w a)
-
--- ---- what is left falls with the size that is chosen
-one-most : (b : Bool) → one b ≤ 1
-one-most true = omega arith
-one-most false = omega arith
-
-one-yes : (a b : ℕ) → a ≤ b → one (leb a b) ≡ 1
-one-yes a b h = rw (le-leb a b h)
-
-one-not : (a b : ℕ) → b < a → one (leb a b) ≡ 0
-one-not a b h = rw (lt-leb a b h)
-
--- two tests, the second of which follows from the first
-one-mono : (a b c d : ℕ) → (a ≤ b → c ≤ d) → one (leb a b) ≤ one (leb c d)
-one-mono a b c d f =
-    ⊎-elim (λ h. omega (arith, one-not a b h)) (λ h. omega (arith, one-yes a b h, one-yes c d (f h))) (split b a)
-
--- a width that is at most half, rounded up, of another has a level less
-level-falls : (v w : ℕ) → 1 < w → w ≤ 65536 → v ≤ (w + 1) / 2 → level 16 v < level 16 w
-level-falls v w a h l = omega (arith, level-mono 16 v ((w + 1) / 2) l, level-half w a h)
+use Rattle.mtu_search.specs.Search.{begun, half, chosen, sent, onward, turn, acked, missed}
+use Rattle.mtu_search.specs.Measure.{edge, sizesMost, afterLost, sizesLeft, triesLeft, sizesIn, probesIn}
+use Rattle.mtu_search.proofs.Kept.{Choice, nothing, middle, bound, choice, Fine}
+use Rattle.mtu_search.proofs.Levels.{up, levels-half, levels-mono, most-none, most-some}
 
 max-below : (a b n : ℕ) → a < n → b < n → max a b < n
 max-below a b n h l = omega arith
+
+-- above the edge, and at least there with 2 and more, said with sums
+edge-below : (change w : ℕ) → 1 < w → 2 * change ≤ w + 2 → edge change < w
+edge-below change w h l = omega arith
+
+edge-within : (change w : ℕ) → 2 ≤ w → 2 * change ≤ w + 3 → max 2 (edge change) ≤ w
+edge-within change w h l = omega arith
+
+module _ (change : ℕ) where
+  most-mono : (v w : ℕ) → v ≤ w → sizesMost change v ≤ sizesMost change w
+  most-mono v w h =
+      ⊎-elim (λ d. omega (arith, most-none change v d))
+      (λ d. omega (arith, most-some change v d, most-some change w (omega arith), levels-mono change v w h)) (split v change)
+
+  lost-stop : (w : ℕ) → w < max 2 (edge change) → afterLost change w ≡ 0
+  unfolding afterLost
+  lost-stop w h = rw (lt-ltb w (max 2 (edge change)) h)
+
+  lost-step : (w : ℕ) → max 2 (edge change) ≤ w → afterLost change w ≡ suc (sizesMost change (up w))
+  unfolding afterLost
+  lost-step w h = rw (le-ltb w (max 2 (edge change)) h)
+
+  -- no more is left after a loss than after an acknowledgement
+  lost-won : (w : ℕ) → w ≤ 65536 → afterLost change w ≤ sizesMost change w
+  lost-won w f = ⊎-elim (λ h. omega (arith, lost-stop w h)) (λ h. ⊎-elim (nothing-on h) (λ l. halved h l) (split (up w) change)) (split w (max 2 (edge change)))
+    where
+      -- the upper bound alone
+      nothing-on : max 2 (edge change) ≤ w → up w < change → afterLost change w ≤ sizesMost change w
+      nothing-on h l = omega (arith, lost-step w h, most-none change (up w) l, most-some change w (omega arith))
+
+      -- a level less, and the upper bound is no farther
+      halved : max 2 (edge change) ≤ w → change ≤ up w → afterLost change w ≤ sizesMost change w
+      halved h l =
+          let a : edge change < w = omega arith in
+          omega (arith, lost-step w h, most-some change (up w) l, levels-half change w a f, most-some change w (omega arith))
+
+  -- the upper bound is lost: at most one size is left, and it had two
+  bound-lost : (v w : ℕ) → w ≡ v + 1 → change ≤ w → w / 2 < change → w ≤ 65536 → afterLost change v < sizesMost change w
+  bound-lost v w e l h f =
+      ⊎-elim (λ k. omega (arith, lost-stop v k, most-some change w l))
+      (λ k.
+      let o : edge change < w = omega arith in
+      omega (arith, lost-step v k, most-none change (up v) (omega arith), levels-half change w o f, most-some change w l))
+      (split v (max 2 (edge change)))
 
 module _ (lower upper change : ℕ) (le : lower ≤ upper) (c : 0 < change) (fits : upper ≤ 65536) where
   abbrev wide : ℕ
   wide = upper - lower
 
+  -- below the middle: a lost one leaves no more than an acknowledged one
+  below : afterLost change (half lower upper - 1 - lower) ≤ sizesMost change (up wide)
+  below =
+      let v : ℕ = half lower upper - 1 - lower in
+      omega (arith, lost-won change (half lower upper - 1 - lower) (omega arith), most-mono change (half lower upper - 1 - lower) (up wide) (omega arith))
+
+  above : sizesMost change (upper - half lower upper) ≤ sizesMost change (up wide)
+  above = most-mono change (upper - half lower upper) (up wide) (omega arith)
+
   -- after an acknowledged size, which is the lower bound now
-  won-falls : (z : ℕ) → Choice lower upper lower change z → (z ≡ 0 → ⊥) → sizesLeft lower upper z change < afterWon change wide
-  unfolding sizesLeft afterWon afterLost
+  won-falls : (z : ℕ) → Choice lower upper lower change z → (z ≡ 0 → ⊥) → (change ≤ wide) × (sizesLeft lower upper z change < sizesMost change wide)
+  unfolding sizesLeft
   won-falls z nothing d = absurd (d refl)
   won-falls z (middle h l) d =
-      let m = half lower upper in
-      let w1 : 1 < wide = omega arith in
-      let w2 : wide ≤ 65536 = omega arith in
-      let a = level-falls (upper - m) wide w1 w2 (omega arith) in
-      let b = level-falls (m - 1 - lower) wide w1 w2 (omega arith) in
-      let y : one (leb change wide) ≡ 1 = one-yes change wide (omega arith) in
-      max-below (level 16 (upper - m) + one (leb change (upper - m))) (level 16 (m - 1 - lower) + one (leb (2 * change) (m - 1 - lower + 1))) _
-      (omega (arith, one-most (leb change (upper - m))))
-      (omega (arith, one-most (leb (2 * change) (m - 1 - lower + 1))))
-  won-falls z (bound h l) d =
-      let y : one (leb change wide) ≡ 1 = one-yes change wide l in
-      let n : one (leb change (upper - upper)) ≡ 0 = one-not change (upper - upper) (omega arith) in
-      let o : one (leb (2 * change) (upper - 1 - lower + 1)) ≡ 0 = one-not (2 * change) (upper - 1 - lower + 1) (omega arith) in
-      let a = level-mono 16 (upper - upper) wide (omega arith) in
-      let b = level-mono 16 (upper - 1 - lower) wide (omega arith) in
-      max-below (level 16 (upper - upper) + one (leb change (upper - upper))) (level 16 (upper - 1 - lower) + one (leb (2 * change) (upper - 1 - lower + 1))) _
-      (omega arith)
-      (omega arith)
+      let a = levels-half change wide (edge-below change wide (omega arith) (omega arith)) (omega arith) in
+      let y = most-some change wide (omega arith) in
+      let x = most-some change (up wide) (omega arith) in
+      (omega arith, max-below (sizesMost change (upper - half lower upper)) (afterLost change (half lower upper - 1 - lower)) _ (omega (arith, above)) (omega (arith, below)))
+  won-falls z (bound h l) d = (l, max-below (sizesMost change (upper - upper)) (afterLost change (upper - 1 - lower)) _ top under)
+    where
+      top : sizesMost change (upper - upper) < sizesMost change wide
+      top = omega (arith, most-none change (upper - upper) (omega arith), most-some change wide l)
+
+      under : afterLost change (upper - 1 - lower) < sizesMost change wide
+      under = bound-lost change (upper - 1 - lower) wide (omega arith) l (omega arith) (omega arith)
 
   -- after a lost size, which is one above the upper bound now
   lost-falls : (last z : ℕ) → last ≡ upper + 1 → Choice lower upper last change z → (z ≡ 0 → ⊥) → sizesLeft lower upper z change < afterLost change wide
-  unfolding sizesLeft afterWon afterLost
+  unfolding sizesLeft
   lost-falls last z e nothing d = absurd (d refl)
   lost-falls last z e (middle h l) d =
-      let m = half lower upper in
-      let w1 : 1 < wide = omega arith in
-      let w2 : wide ≤ 65536 = omega arith in
-      let a = level-falls (upper - m) wide w1 w2 (omega arith) in
-      let b = level-falls (m - 1 - lower) wide w1 w2 (omega arith) in
-      let x = one-mono change (upper - m) (2 * change) (wide + 1) (λ k. omega arith) in
-      let y = one-mono (2 * change) (m - 1 - lower + 1) (2 * change) (wide + 1) (λ k. omega arith) in
-      max-below (level 16 (upper - m) + one (leb change (upper - m))) (level 16 (m - 1 - lower) + one (leb (2 * change) (m - 1 - lower + 1))) _
-      (omega arith)
-      (omega arith)
+      let a = lost-step change wide (edge-within change wide (omega arith) (omega arith)) in
+      max-below (sizesMost change (upper - half lower upper)) (afterLost change (half lower upper - 1 - lower)) _ (omega (arith, above)) (omega (arith, below))
   lost-falls last z e (bound h l) d = absurd (omega arith)
 
 -- ---- a turn
@@ -175,7 +145,7 @@ onward-less s lower upper last change n f = by (eqb (chosen lower upper last cha
 
 module _ (s : SearchState) (current peer : ℕ) (k : Fine s current peer) (fits : peer ≤ 65536) (change : ℕ) (c : 0 < change) where
   -- what is left is counted at the larger of the two outcomes
-  won-most : afterWon change (s .upper - s .last) ≤ sizesIn s change
+  won-most : sizesMost change (s .upper - s .last) ≤ sizesIn s change
   unfolding sizesIn sizesLeft
   won-most = omega arith
 
@@ -196,7 +166,7 @@ module _ (s : SearchState) (current peer : ℕ) (k : Fine s current peer) (fits 
       by true b d e f g = tt
       by false true d e f g =
           onward-less s (s .last) (s .upper) (s .last) change n
-          (λ z x o. omega (arith, won-falls (s .last) (s .upper) change (k .within) c (omega (arith, k)) z x o, won-most))
+          (λ z x o. omega (arith, won-falls (s .last) (s .upper) change (k .within) c (omega (arith, k)) z x o .1, won-most))
       by false false true e f g = again s n change e f (ltb-true _ _ g)
       by false false false e f g =
           onward-less s (s .lower) (s .last - 1) (s .last) change n
@@ -219,20 +189,19 @@ unfolding sizesIn missed
 missed-sizes s change = refl
 
 -- ---- the first turn
-unfoldable pub TurnFirst : Turn → ℕ → Type 0
-TurnFirst Waiting change = Unit
-TurnFirst (Probing t) change = (sizesIn t change ≤ 16) × (probesIn t change ≤ 50)
-TurnFirst Over change = Unit
+-- what a first probe leaves, of a search whose bounds are w apart
+unfoldable pub TurnFirst : Turn → ℕ → ℕ → Type 0
+TurnFirst Waiting change w = Unit
+TurnFirst (Probing t) change w = (change ≤ w) × ((sizesIn t change < sizesMost change w) × (probesIn t change < 3 * sizesMost change w))
+TurnFirst Over change w = Unit
 
-first-size : (lower upper z n change : ℕ) → sizesLeft lower upper z change ≤ 16 → (sizesIn (sent lower upper z n 0) change ≤ 16) × (probesIn (sent lower upper z n 0) change ≤ 50)
+first-size : (lower upper z n change w : ℕ) → sizesLeft lower upper z change < sizesMost change w
+    → (sizesIn (sent lower upper z n 0) change < sizesMost change w) × (probesIn (sent lower upper z n 0) change < 3 * sizesMost change w)
 unfolding sizesIn probesIn triesLeft
-first-size lower upper z n change h = (h, omega arith)
+first-size lower upper z n change w h = (h, omega arith)
 
-won-bound : (change w : ℕ) → afterWon change w ≤ 17
-unfolding afterWon
-won-bound change w = omega (arith, level-most 16 w, one-most (leb change w))
-
-pub first-turn : (current peer top change n : ℕ) → current ≤ peer → peer ≤ 65536 → 0 < change → TurnFirst (turn (begun current peer top) change n) change
+pub first-turn : (current peer top change n : ℕ) → current ≤ peer → peer ≤ 65536 → 0 < change
+    → TurnFirst (turn (begun current peer top) change n) change (min top peer - current)
 unfolding turn begun onward TurnFirst
 first-turn current peer top change n a b c = by (eqb (chosen lower upper lower change) 0) refl
   where
@@ -242,13 +211,13 @@ first-turn current peer top change n a b c = by (eqb (chosen lower upper lower c
     upper : ℕ
     upper = max (min current peer) (min top peer)
 
-    by : (t : Bool) → eqb (chosen lower upper lower change) 0 ≡ t → TurnFirst (cond t Over (Probing (sent lower upper (chosen lower upper lower change) n 0))) change
+    w : ℕ
+    w = min top peer - current
+
+    by : (t : Bool) → eqb (chosen lower upper lower change) 0 ≡ t → TurnFirst (cond t Over (Probing (sent lower upper (chosen lower upper lower change) n 0))) change w
     by true h = tt
     by false h =
         let z = chosen lower upper lower change in
-        first-size lower upper z n change
-        (omega (
-          arith,
-          won-falls lower upper change (omega arith) c (omega arith) z (choice lower upper lower change) (eqb-false _ _ h),
-          won-bound change (upper - lower),
-        ))
+        let f = won-falls lower upper change (omega arith) c (omega arith) z (choice lower upper lower change) (eqb-false _ _ h) in
+        let e : upper - lower ≡ w = omega arith in
+        (omega (arith, f .0), first-size lower upper z n change w (omega (arith, f .1, ap (λ (x : ℕ). sizesMost change x) e)))

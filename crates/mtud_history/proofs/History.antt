@@ -13,13 +13,9 @@ use Rattle.mtud.specs.declared.Done.{Done}
 use Rattle.mtud.specs.declared.Size.{Size}
 use Rattle.mtud.specs.declared.View.{View}
 use Rattle.mtud.specs.Discovery.{started, startedWith, sizeOf, viewed, shown, good}
+use Rattle.mtud_history.specs.Told.{peerOf}
 use Rattle.mtud_history.proofs.Calls.{New, Disabled, Reset, Poll, Peer, Acked, ProbeLost, Lost, Hole, CurrentMtu, Viewed}
 use Rattle.mtud_history.proofs.Kept.{Held, held-good, started-held, off-held, reset-held, polled-held, peer-held, acked-held, probe-lost-held, packet-lost-held, hole-held}
-
--- the peer's maximum at the start: 65,527 where it is not known
-abbrev pub peerOf : PeerMax → ℕ
-peerOf Unknown = 65527
-peerOf (Known p) = p
 
 -- after some calls, refused or not, the record is m, and p is the peer's maximum received last
 pub data Run : ℕ → MtuDiscovery → Type 0 where
@@ -53,7 +49,7 @@ held (ask {p} {m} now r h e) = rw e (hole-held m p (held h) now)
 pub well-formed : {p : ℕ} {m : MtuDiscovery} → Run p m → good m ≡ true
 well-formed h = held-good (held h)
 
-size-is : (m : MtuDiscovery) (r : Size) → r ≡ sizeOf m → good m ≡ true → (r .answer ≡ 0) × (r .size ≡ m .current)
+pub size-is : (m : MtuDiscovery) (r : Size) → r ≡ sizeOf m → good m ≡ true → (r .answer ≡ 0) × (r .size ≡ m .current)
 unfolding sizeOf
 size-is m r e g = rw (e, g) (refl, refl)
 

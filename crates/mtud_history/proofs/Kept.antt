@@ -17,7 +17,8 @@ use Rattle.mtu_search.specs.declared.Turn.the-variants.{Waiting, Probing, Over}
 use Rattle.mtu_search.specs.Search as search
 use Rattle.answers.proofs.Tests.{fst, snd, both}
 use Rattle.mtu_search.proofs.Kept.{Fine, fine-good, TurnFine, turn-fine, first-fine, acked-fine, missed-fine}
-use Rattle.mtud_history.proofs.Turns.{TurnSends, turn-sends, first-sends, acked-upper, missed-upper}
+use Rattle.mtu_search.proofs.History.{acked-upper, missed-upper}
+use Rattle.mtud_history.proofs.Turns.{TurnSends, turn-sends, first-sends}
 use Rattle.mtu_phase.specs.declared.Phase.{Phase}
 use Rattle.mtu_phase.specs.declared.Phase.the-variants.{Off, Initial, Searching, Complete}
 use Rattle.mtu_phase.specs.declared.MtuDiscoveryConfig.{MtuDiscoveryConfig}

@@ -2,8 +2,14 @@ pub mod Turns
 pub mod Kept
 pub mod Calls
 pub mod History
-pub mod Counts
 pub mod Searches
+pub mod Sizes
+pub mod Flights
+pub mod Ends
+pub mod Rests
+pub mod Plays
+pub mod Fresh
 pub mod Probes
+pub mod Provenance
 pub mod Examples
 pub mod RulesOut

@@ -3,7 +3,6 @@
 use mathlib.Core.Path.{_≡_, refl, ap, _∙_}
 use Prim.Native.Nat.{ℕ, _≤_}
 use mathlib.Core.List.{List}
-use lib.ListN.{length}
 use Rattle.black_hole.specs.BlackHole as hole
 use Rattle.mtu_search.specs.Search as search
 use Rattle.mtu_phase.specs.Phase as phase
@@ -11,11 +10,12 @@ use Rattle.mtud.specs.declared.PeerMax.the-variants.{Unknown}
 use Rattle.mtud.specs.declared.MtuDiscovery.{MtuDiscovery}
 use Rattle.mtud.specs.declared.Done.{Done}
 use Rattle.mtud.specs.Discovery as mtud
-use Rattle.mtud_history.specs.Count.{times}
+use Rattle.mtu_search.specs.Count.{times}
 use Rattle.mtud_history.specs.Examples.{config, start}
 use Rattle.mtud_history.proofs.Calls.{New, Poll}
 use Rattle.mtud_history.proofs.Examples.{first-1326}
-use Rattle.mtud_history.proofs.Searches.{Search, search-bounded}
+use Rattle.mtud_history.proofs.Searches.{Search}
+use Rattle.mtud_history.proofs.Sizes.{search-bounded}
 
 start-ok : mtud.started 1200 1200 Unknown config .answer ≡ 0
 unfolding mtud.started mtud.startedWith phase.sizeB phase.goodConfig

@@ -9,7 +9,7 @@ use borrow.Author.Tests.{eqb-false}
 use Rattle.mtu_search.specs.declared.SearchState.{SearchState}
 use Rattle.mtu_search.specs.declared.Turn.{Turn}
 use Rattle.mtu_search.specs.declared.Turn.the-variants.{Waiting, Probing, Over}
-use Rattle.mtu_search.specs.Search.{begun, chosen, sent, onward, turn, acked, missed}
+use Rattle.mtu_search.specs.Search.{begun, chosen, sent, onward, turn}
 use Rattle.mtu_search.proofs.Kept.{choice, chosen-between, Fine}
 
 unfoldable pub TurnSends : Turn → ℕ → Type 0
@@ -57,11 +57,3 @@ first-sends current peer top change n c =
 
     capped : (lower < chosen lower upper lower change) × (chosen lower upper lower change ≤ upper) → upper ≤ top
     capped z = omega (arith, z .0, z .1)
-
-pub acked-upper : (s : SearchState) → acked s .upper ≡ s .upper
-unfolding acked
-acked-upper s = refl
-
-pub missed-upper : (s : SearchState) → missed s .upper ≡ s .upper
-unfolding missed
-missed-upper s = refl

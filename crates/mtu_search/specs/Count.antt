@@ -1,9 +1,13 @@
--- Counting the sizes of probes.
+-- Counting the sizes of probes: how often each was sent, and how many different ones.
 -- Assumes nothing.
 use Prim.Native.Nat.{ℕ, _+_}
+use mathlib.Core.Bool.{Bool, true, false}
 use mathlib.Core.List.{List, [], _∷_}
 use lib.Dec.{eqb}
-use Rattle.mtu_search.specs.Measure.{one}
+
+abbrev pub one : Bool → ℕ
+one true = 1
+one false = 0
 
 -- how often x stands in a list
 unfoldable pub times : ℕ → List ℕ → ℕ

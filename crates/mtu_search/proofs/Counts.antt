@@ -1,23 +1,23 @@
--- The books of one search: the probes sent so far and what its state still allows come to at most 51 probes and 17 sizes, and to three of each size.
+-- The books of one search: the probes sent so far and what its state still allows come to at most b sizes, three times b probes, and three of each size.
 -- Each step of a search keeps them: a size that was lost is sent again, or a new one lies strictly between the bounds, where none was tried. Assumes nothing.
 use mathlib.Core.Path.{_≡_, refl, ap, sym, _∙_}
 use mathlib.Core.Bool.{Bool, true, false, cond}
 use mathlib.Core.List.{List, [], _∷_}
 use mathlib.Core.Logic.{_⊎_, inl, inr, ⊎-elim}
-use Prim.Native.Nat.{ℕ, suc, _+_, _-_, _*_, _^_, _≤_, _<_, min, max}
+use Prim.Native.Nat.{ℕ, suc, _+_, _-_, _*_, _≤_, _<_, min}
 use native.Mathlib.Omega.{arith}
-use lib.Dec.{eqb, ltb, leb}
+use lib.Dec.{eqb, ltb}
 use lib.ListN.{length}
-use borrow.Author.Tests.{ltb-true, ltb-false, eqb-true, eqb-false, eq-eqb, ne-eqb}
+use borrow.Author.Tests.{ltb-true, eq-eqb, ne-eqb}
 use Rattle.mtu_search.specs.declared.SearchState.{SearchState}
 use Rattle.mtu_search.specs.declared.Turn.{Turn}
 use Rattle.mtu_search.specs.declared.Turn.the-variants.{Waiting, Probing, Over}
 use Rattle.mtu_search.specs.Search.{begun, chosen, sent, onward, turn, acked, missed}
-use Rattle.mtu_search.specs.Measure.{one, triesLeft, sizesIn, probesIn}
+use Rattle.mtu_search.specs.Measure.{triesLeft, sizesIn, probesIn}
 use Rattle.answers.proofs.Tests.{split}
 use Rattle.mtu_search.proofs.Kept.{Fine}
 use Rattle.mtu_search.proofs.Measure.{Less}
-use Rattle.mtud_history.specs.Count.{times, sizes}
+use Rattle.mtu_search.specs.Count.{times, sizes}
 
 -- ---- what a turn does to the bounds
 -- the same size again
@@ -89,15 +89,15 @@ turn-kind s current peer k change n = by (s .flying) (eqb (s .lost) 0) (ltb (s .
     by false false false e f g = onward-kind s (s .lower) (s .last - 1) (s .last) change n (omega arith) (omega (arith, k)) (λ x h l i. omega (arith, k))
 
 -- ---- the books
-pub record Counts (zs : List ℕ) (s : SearchState) (change : ℕ) : Type 0 where
-  pub probes : length zs + probesIn s change ≤ 51
-  pub sorts : sizes zs + sizesIn s change ≤ 17
+pub record Counts (zs : List ℕ) (s : SearchState) (change b : ℕ) : Type 0 where
+  pub probes : length zs + probesIn s change ≤ 3 * b
+  pub sorts : sizes zs + sizesIn s change ≤ b
   pub out : 1 ≤ times (s .last) zs
   pub mine : times (s .last) zs + triesLeft s ≤ 3
   pub others : (x : ℕ) → (x ≡ s .last → ⊥) → times x zs ≤ 3
   pub between : (x : ℕ) → s .lower < x → x ≤ s .upper → (x ≡ s .last → ⊥) → times x zs ≡ 0
 
-times-here : (x : ℕ) (l : List ℕ) → times x (x ∷ l) ≡ suc (times x l)
+pub times-here : (x : ℕ) (l : List ℕ) → times x (x ∷ l) ≡ suc (times x l)
 unfolding times
 times-here x l = rw (eq-eqb x x refl) (omega arith)
 
@@ -105,19 +105,19 @@ times-there : (x y : ℕ) (l : List ℕ) → (x ≡ y → ⊥) → times x (y �
 unfolding times
 times-there x y l d = rw (ne-eqb x y d) (omega arith)
 
-times-none : (x : ℕ) → times x [] ≡ 0
+pub times-none : (x : ℕ) → times x [] ≡ 0
 unfolding times
 times-none x = refl
 
-sizes-old : (x : ℕ) (l : List ℕ) → 1 ≤ times x l → sizes (x ∷ l) ≡ sizes l
+pub sizes-old : (x : ℕ) (l : List ℕ) → 1 ≤ times x l → sizes (x ∷ l) ≡ sizes l
 unfolding sizes
 sizes-old x l h = rw (ne-eqb (times x l) 0 (λ e. omega arith)) (omega arith)
 
-sizes-new : (x : ℕ) (l : List ℕ) → times x l ≡ 0 → sizes (x ∷ l) ≡ suc (sizes l)
+pub sizes-new : (x : ℕ) (l : List ℕ) → times x l ≡ 0 → sizes (x ∷ l) ≡ suc (sizes l)
 unfolding sizes
 sizes-new x l h = rw (eq-eqb (times x l) 0 h) (omega arith)
 
-sizes-none : sizes [] ≡ 0
+pub sizes-none : sizes [] ≡ 0
 unfolding sizes
 sizes-none = refl
 
@@ -125,21 +125,21 @@ is-or-not : (x y : ℕ) → (x ≡ y) ⊎ (x ≡ y → ⊥)
 is-or-not x y = ⊎-elim (λ a. inr (λ e. omega arith)) (λ a. ⊎-elim (λ b. inr (λ e. omega arith)) (λ b. inl (omega arith)) (split y x)) (split x y)
 
 -- a state with the same sizes and no more tries
-pub counts-less : (zs : List ℕ) (s t : SearchState) (change : ℕ) → Counts zs s change → t .lower ≡ s .lower → t .upper ≡ s .upper → t .last ≡ s .last
-    → triesLeft t ≤ triesLeft s → sizesIn t change ≡ sizesIn s change → Counts zs t change
+pub counts-less : (zs : List ℕ) (s t : SearchState) (change b : ℕ) → Counts zs s change b → t .lower ≡ s .lower → t .upper ≡ s .upper → t .last ≡ s .last
+    → triesLeft t ≤ triesLeft s → sizesIn t change ≡ sizesIn s change → Counts zs t change b
 unfolding probesIn
-counts-less zs s t change k el eu ea h e =
+counts-less zs s t change b k el eu ea h e =
     record {
       probes = omega (arith, k .probes);
       sorts = omega (arith, k .sorts);
       out = omega (arith, k .out, ap (λ (y : ℕ). times y zs) ea);
       mine = omega (arith, k .mine, ap (λ (y : ℕ). times y zs) ea);
       others = λ x d. k .others x (λ i. d (i ∙ sym ea));
-      between = λ x a b d. k .between x (omega arith) (omega arith) (λ i. d (i ∙ sym ea));
+      between = λ x h l d. k .between x (omega arith) (omega arith) (λ i. d (i ∙ sym ea));
     }
 
-module _ (zs : List ℕ) (s t : SearchState) (change : ℕ) (k : Counts zs s change) (l : Less s t change) where
-  same-counts : Same s t → Counts (t .last ∷ zs) t change
+module _ (zs : List ℕ) (s t : SearchState) (change b : ℕ) (k : Counts zs s change b) (l : Less s t change) where
+  same-counts : Same s t → Counts (t .last ∷ zs) t change b
   same-counts j =
       let e : times (t .last) zs ≡ times (s .last) zs = ap (λ (x : ℕ). times x zs) (j .last) in
       let h = times-here (t .last) zs in
@@ -149,10 +149,10 @@ module _ (zs : List ℕ) (s t : SearchState) (change : ℕ) (k : Counts zs s cha
         out = omega arith;
         mine = omega (arith, k .mine, j .tries);
         others = λ x d. omega (arith, times-there x (t .last) zs d, k .others x (λ i. d (i ∙ sym (j .last))));
-        between = λ x a b d. times-there x (t .last) zs d ∙ k .between x (omega (arith, j)) (omega (arith, j)) (λ i. d (i ∙ sym (j .last)));
+        between = λ x v w d. times-there x (t .last) zs d ∙ k .between x (omega (arith, j)) (omega (arith, j)) (λ i. d (i ∙ sym (j .last)));
       }
 
-  new-counts : {current peer : ℕ} → Fine t current peer → New s t → Counts (t .last ∷ zs) t change
+  new-counts : {current peer : ℕ} → Fine t current peer → New s t → Counts (t .last ∷ zs) t change b
   new-counts f j =
       let h = times-here (t .last) zs in
       let d0 : t .last ≡ s .last → ⊥ = j .apart (t .last) (f .above) (f .within) in
@@ -165,15 +165,15 @@ module _ (zs : List ℕ) (s t : SearchState) (change : ℕ) (k : Counts zs s cha
         others = λ x d.
             ⊎-elim (λ i. omega (arith, times-there x (t .last) zs d, ap (λ (y : ℕ). times y zs) i, k .mine)) (λ i. omega (arith, times-there x (t .last) zs d, k .others x i))
             (is-or-not x (s .last));
-        between = λ x a b d. times-there x (t .last) zs d ∙ k .between x (omega (arith, j)) (omega (arith, j)) (j .apart x a b);
+        between = λ x v w d. times-there x (t .last) zs d ∙ k .between x (omega (arith, j)) (omega (arith, j)) (j .apart x v w);
       }
 
-  pub next-counts : {current peer : ℕ} → Fine t current peer → Same s t ⊎ New s t → Counts (t .last ∷ zs) t change
+  pub next-counts : {current peer : ℕ} → Fine t current peer → Same s t ⊎ New s t → Counts (t .last ∷ zs) t change b
   next-counts f (inl j) = same-counts j
   next-counts f (inr j) = new-counts f j
 
-pub first-counts : (t : SearchState) (change : ℕ) → sizesIn t change ≤ 16 → probesIn t change ≤ 50 → triesLeft t ≡ 2 → Counts (t .last ∷ []) t change
-first-counts t change a b c =
+pub first-counts : (t : SearchState) (change b : ℕ) → sizesIn t change < b → probesIn t change < 3 * b → triesLeft t ≡ 2 → Counts (t .last ∷ []) t change b
+first-counts t change b v w c =
     let h = times-here (t .last) [] in
     let n = times-none (t .last) in
     record {
@@ -182,7 +182,7 @@ first-counts t change a b c =
       out = omega arith;
       mine = omega arith;
       others = λ x d. omega (arith, times-there x (t .last) [] d, times-none x);
-      between = λ x a b d. times-there x (t .last) [] d ∙ times-none x;
+      between = λ x h l d. times-there x (t .last) [] d ∙ times-none x;
     }
 
 pub acked-tries : (s : SearchState) → triesLeft (acked s) ≤ triesLeft s
@@ -193,7 +193,7 @@ pub missed-tries : (s : SearchState) → s .flying ≡ true → s .lost < 3 → 
 unfolding triesLeft missed
 missed-tries s e h = rw (e, ne-eqb (min (s .lost) 2 + 1) 0 (λ z. omega arith)) (omega arith)
 
--- at most 60 probes, at most 20 sizes, each at most three times
-pub within : (zs : List ℕ) (s : SearchState) (change : ℕ) → Counts zs s change → (length zs ≤ 60) × ((sizes zs ≤ 20) × ((x : ℕ) → times x zs ≤ 3))
-within zs s change k =
+-- at most b sizes, three times b probes, each size at most three times
+pub within : (zs : List ℕ) (s : SearchState) (change b : ℕ) → Counts zs s change b → (length zs ≤ 3 * b) × ((sizes zs ≤ b) × ((x : ℕ) → times x zs ≤ 3))
+within zs s change b k =
     (omega (arith, k .probes), (omega (arith, k .sorts), λ x. ⊎-elim (λ i. omega (arith, ap (λ (y : ℕ). times y zs) i, k .mine)) (λ i. k .others x i) (is-or-not x (s .last))))
