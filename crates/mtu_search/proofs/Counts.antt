@@ -15,6 +15,7 @@ use Rattle.mtu_search.specs.declared.Turn.the-variants.{Waiting, Probing
 use Rattle.mtu_search.specs.Search.{begun, chosen, sent, onward, turn, acked, missed}
 use Rattle.mtu_search.specs.Measure.{triesLeft, sizesIn, probesIn}
 use Rattle.answers.proofs.Tests.{split}
+use Rattle.mtu_search.proofs.Laws.{onward-by, turn-by}
 use Rattle.mtu_search.proofs.Kept.{Fine}
 use Rattle.mtu_search.proofs.Measure.{Less}
 use Rattle.mtu_search.specs.Count.{times, sizes}
@@ -49,12 +50,9 @@ unfolding triesLeft
 sent-tries lower upper z n = refl
 
 onward-tries : (lower upper last change n : ℕ) → TurnTries (onward lower upper last change n)
-unfolding onward TurnTries
-onward-tries lower upper last change n = by (eqb (chosen lower upper last change) 0)
-  where
-    by : (b : Bool) → TurnTries (cond b Over (Probing (sent lower upper (chosen lower upper last change) n 0)))
-    by true = tt
-    by false = sent-tries lower upper (chosen lower upper last change) n
+unfolding TurnTries
+onward-tries lower upper last change n =
+    onward-by (λ (u : Turn). TurnTries u) lower upper last change n (λ h. tt) (λ h. sent-tries lower upper (chosen lower upper last change) n)
 
 pub first-tries : (current peer top change n : ℕ) → TurnTries (turn (begun current peer top) change n)
 unfolding turn begun
@@ -62,31 +60,22 @@ first-tries current peer top change n = onward-tries _ _ _ change n
 
 onward-kind : (s : SearchState) (lower upper last change n : ℕ) → s .lower ≤ lower → upper ≤ s .upper → ((x : ℕ) → lower < x → x ≤ upper → x ≡ s .last → ⊥)
     → TurnKind (onward lower upper last change n) s
-unfolding onward TurnKind
-onward-kind s lower upper last change n a b c = by (eqb (chosen lower upper last change) 0)
-  where
-    by : (d : Bool) → TurnKind (cond d Over (Probing (sent lower upper (chosen lower upper last change) n 0))) s
-    by true = tt
-    by false = inr (record { lower = a; upper = b; apart = c; tries = sent-tries lower upper (chosen lower upper last change) n })
+unfolding TurnKind
+onward-kind s lower upper last change n a b c =
+    onward-by (λ (u : Turn). TurnKind u s) lower upper last change n (λ h. tt)
+    (λ h. inr (record { lower = a; upper = b; apart = c; tries = sent-tries lower upper (chosen lower upper last change) n }))
 
-again : (s : SearchState) (n : ℕ) → s .flying ≡ false → eqb (s .lost) 0 ≡ false → s .lost < 3 → Same s (sent (s .lower) (s .upper) (s .last) n (s .lost))
+again : (s : SearchState) (n : ℕ) → s .flying ≡ false → (s .lost ≡ 0 → ⊥) → s .lost < 3 → Same s (sent (s .lower) (s .upper) (s .last) n (s .lost))
 unfolding triesLeft
-again s n e f g = record { last = refl; lower = refl; upper = refl; tries = rw (e, f) (omega arith) }
+again s n e f g = record { last = refl; lower = refl; upper = refl; tries = rw (e, ne-eqb (s .lost) 0 f) (omega arith) }
 
 pub turn-kind : (s : SearchState) (current peer : ℕ) → Fine s current peer → (change n : ℕ) → TurnKind (turn s change n) s
-unfolding turn TurnKind
-turn-kind s current peer k change n = by (s .flying) (eqb (s .lost) 0) (ltb (s .lost) 3) refl refl refl
-  where
-    by : (a b d : Bool) → s .flying ≡ a → eqb (s .lost) 0 ≡ b → ltb (s .lost) 3 ≡ d
-        → TurnKind
-        (cond a Waiting
-        (cond b (onward (s .last) (s .upper) (s .last) change n)
-        (cond d (Probing (sent (s .lower) (s .upper) (s .last) n (s .lost))) (onward (s .lower) (s .last - 1) (s .last) change n))))
-        s
-    by true b d e f g = tt
-    by false true d e f g = onward-kind s (s .last) (s .upper) (s .last) change n (omega (arith, k)) (omega arith) (λ x h l i. omega arith)
-    by false false true e f g = inl (again s n e f (ltb-true _ _ g))
-    by false false false e f g = onward-kind s (s .lower) (s .last - 1) (s .last) change n (omega arith) (omega (arith, k)) (λ x h l i. omega (arith, k))
+unfolding TurnKind
+turn-kind s current peer k change n =
+    turn-by (λ (u : Turn). TurnKind u s) s change n (λ e. tt)
+    (λ e z. onward-kind s (s .last) (s .upper) (s .last) change n (omega (arith, k)) (omega arith) (λ x h l i. omega arith))
+    (λ e z l. inl (again s n e z l))
+    (λ e z l. onward-kind s (s .lower) (s .last - 1) (s .last) change n (omega arith) (omega (arith, k)) (λ x h l i. omega (arith, k)))
 
 -- ---- the books
 pub record Counts (zs : List ℕ) (s : SearchState) (change b : ℕ) : Type 0 where

@@ -14,7 +14,8 @@ use Rattle.mtu_search.specs.declared.Turn.the-variants.{Waiting, Probing
 use Rattle.mtu_search.specs.Search.{begun, half, distance, chosen, sent, onward, turn, acked, missed, known}
 use Rattle.answers.proofs.Tests.{never}
 use Rattle.mtu_search.specs.Measure.{shortfall}
-use Rattle.mtu_search.proofs.Kept.{Fine, known-acked, known-lost}
+use Rattle.mtu_search.proofs.Laws.{onward-by, turn-by, known-acked, known-lost}
+use Rattle.mtu_search.proofs.Kept.{Fine}
 use Rattle.mtu_search.proofs.History.{New, Poll, Steps, opens, probes, acks, loses, Fit, sure}
 
 -- ---- where no size is chosen
@@ -64,38 +65,28 @@ sent-straight S lower upper z n lost a b c = record { low = a; high = b; won = �
 
 onward-straight : (S lower upper last change n : ℕ) → 0 < change → lower ≤ S → S ≤ upper → (last ≡ lower) ⊎ (last ≡ upper + 1)
     → TurnStraight (onward lower upper last change n) S change lower
-unfolding onward TurnStraight
-onward-straight S lower upper last change n c a b o = by (eqb (chosen lower upper last change) 0) refl
+unfolding TurnStraight
+onward-straight S lower upper last change n c a b o =
+    onward-by (λ (u : Turn). TurnStraight u S change lower) lower upper last change n (λ e. (a, near o (none-chosen lower upper last change c e)))
+    (λ e. sent-straight S lower upper (chosen lower upper last change) n 0 a b (λ z. absurd (omega arith)))
   where
     near : (last ≡ lower) ⊎ (last ≡ upper + 1) → (half lower upper ≤ lower) ⊎ ((distance (half lower upper) last < change) × (upper - last < change)) → S - lower ≤ shortfall change
     near o (inl h) = middle-near lower upper change S b h
     near (inl e) (inr h) = won-near lower upper change S b (subst (λ (x : ℕ). upper - x < change) e (h .1))
     near (inr e) (inr h) = lost-near lower upper change S (omega arith) b (subst (λ (x : ℕ). distance (half lower upper) x < change) e (h .0))
 
-    by : (t : Bool) → eqb (chosen lower upper last change) 0 ≡ t
-        → TurnStraight (cond t Over (Probing (sent lower upper (chosen lower upper last change) n 0))) S change lower
-    by true e = (a, near o (none-chosen lower upper last change c (eqb-true _ _ e)))
-    by false e = sent-straight S lower upper (chosen lower upper last change) n 0 a b (λ z. absurd (omega arith))
-
 turn-straight : (S : ℕ) (s : SearchState) (mtu peer change n : ℕ) → Fine s mtu peer → 0 < change → Straight S s → TurnStraight (turn s change n) S change (known s)
-unfolding turn TurnStraight
-turn-straight S s mtu peer change n f c k = by (s .flying) (eqb (s .lost) 0) (ltb (s .lost) 3) refl refl refl
-  where
-    by : (a b d : Bool) → s .flying ≡ a → eqb (s .lost) 0 ≡ b → ltb (s .lost) 3 ≡ d
-        → TurnStraight
-        (cond a Waiting
-        (cond b (onward (s .last) (s .upper) (s .last) change n)
-        (cond d (Probing (sent (s .lower) (s .upper) (s .last) n (s .lost))) (onward (s .lower) (s .last - 1) (s .last) change n))))
-        S change (known s)
-    by true b d e g h = tt
-    by false true d e g h =
-        subst (λ (x : ℕ). TurnStraight (onward (s .last) (s .upper) (s .last) change n) S change x) (sym (known-acked s e g))
-        (onward-straight S (s .last) (s .upper) (s .last) change n c (k .won e (eqb-true _ _ g)) (k .high) (inl refl))
-    by false false true e g h = sent-straight S (s .lower) (s .upper) (s .last) n (s .lost) (k .low) (k .high) (k .lost)
-    by false false false e g h =
-        let l : S < s .last = k .lost (omega (arith, ltb-false)) in
-        subst (λ (x : ℕ). TurnStraight (onward (s .lower) (s .last - 1) (s .last) change n) S change x) (sym (known-lost s e g))
-        (onward-straight S (s .lower) (s .last - 1) (s .last) change n c (k .low) (omega arith) (inr (omega arith)))
+unfolding TurnStraight
+turn-straight S s mtu peer change n f c k =
+    turn-by (λ (u : Turn). TurnStraight u S change (known s)) s change n (λ e. tt)
+    (λ e z.
+    subst (λ (x : ℕ). TurnStraight (onward (s .last) (s .upper) (s .last) change n) S change x) (known-acked s e z)
+    (onward-straight S (s .last) (s .upper) (s .last) change n c (k .won e z) (k .high) (inl refl)))
+    (λ e z l. sent-straight S (s .lower) (s .upper) (s .last) n (s .lost) (k .low) (k .high) (k .lost))
+    (λ e z l.
+    let h : S < s .last = k .lost (omega arith) in
+    subst (λ (x : ℕ). TurnStraight (onward (s .lower) (s .last - 1) (s .last) change n) S change x) (known-lost s e z)
+    (onward-straight S (s .lower) (s .last - 1) (s .last) change n c (k .low) (omega arith) (inr (omega arith))))
 
 acked-straight : (S : ℕ) (s : SearchState) → Straight S s → s .last ≤ S → Straight S (acked s)
 unfolding acked

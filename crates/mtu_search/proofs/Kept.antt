@@ -12,6 +12,7 @@ use Rattle.answers.proofs.Tests.{never, fst, snd, both}
 use Rattle.mtu_search.specs.declared.SearchState.{SearchState}
 use Rattle.mtu_search.specs.declared.Turn.{Turn}
 use Rattle.mtu_search.specs.declared.Turn.the-variants.{Waiting, Probing, Over}
+use Rattle.mtu_search.proofs.Laws.{onward-by, turn-by, known-flying, known-acked, known-lost}
 use Rattle.mtu_search.specs.Search.{begun, half, distance, chosen, sent, onward, turn, acked, missed, known, good}
 
 -- ---- the size that is chosen
@@ -106,46 +107,21 @@ sent-fine lower upper x n lost current peer a b c d e f g = record { low = a; ab
 
 pub onward-fine : (lower upper last change n current peer : ℕ) → 1200 ≤ lower → lower ≤ upper → lower ≤ last → upper ≤ peer → 0 < change → n < 2 ^ 62 → current ≡ lower
     → TurnFine (onward lower upper last change n) current peer
-unfolding onward TurnFine
-onward-fine lower upper last change n current peer a b c d e f g = by (eqb (chosen lower upper last change) 0) refl
-  where
-    by : (t : Bool) → eqb (chosen lower upper last change) 0 ≡ t → TurnFine (cond t Over (Probing (sent lower upper (chosen lower upper last change) n 0))) current peer
-    by true h = tt
-    by false h =
-        let z = chosen-between lower upper last change _ (choice lower upper last change) b c e (eqb-false _ _ h) in
-        sent-fine lower upper _ n 0 current peer a (z .0) (z .1) d (omega arith) f g
-
-pub known-acked : (s : SearchState) → s .flying ≡ false → eqb (s .lost) 0 ≡ true → known s ≡ s .last
-unfolding known
-known-acked s e f = rw (e, f)
-
-pub known-lost : (s : SearchState) → s .flying ≡ false → eqb (s .lost) 0 ≡ false → known s ≡ s .lower
-unfolding known
-known-lost s e f = rw (e, f)
-
-known-flying : (s : SearchState) → s .flying ≡ true → known s ≡ s .lower
-unfolding known
-known-flying s e = rw e
+unfolding TurnFine
+onward-fine lower upper last change n current peer a b c d e f g =
+    onward-by (λ (u : Turn). TurnFine u current peer) lower upper last change n (λ h. tt)
+    (λ h.
+    let z = chosen-between lower upper last change _ (choice lower upper last change) b c e h in
+    sent-fine lower upper _ n 0 current peer a (z .0) (z .1) d (omega arith) f g)
 
 module _ (s : SearchState) (current peer : ℕ) (k : Fine s current peer) where
   pub turn-fine : (change n : ℕ) → 0 < change → n < 2 ^ 62 → TurnFine (turn s change n) current peer
-  unfolding turn TurnFine
-  turn-fine change n hc hn = by (s .flying) (eqb (s .lost) 0) (ltb (s .lost) 3) refl refl refl
-    where
-      by : (a b c : Bool) → s .flying ≡ a → eqb (s .lost) 0 ≡ b → ltb (s .lost) 3 ≡ c
-          → TurnFine
-          (cond a Waiting
-          (cond b (onward (s .last) (s .upper) (s .last) change n)
-          (cond c (Probing (sent (s .lower) (s .upper) (s .last) n (s .lost))) (onward (s .lower) (s .last - 1) (s .last) change n))))
-          current peer
-      by true b c e f g = tt
-      by false true c e f g =
-          onward-fine (s .last) (s .upper) (s .last) change n current peer (omega (arith, k)) (k .within) (omega arith) (k .top) hc hn (k .is ∙ known-acked s e f)
-      by false false true e f g =
-          sent-fine (s .lower) (s .upper) (s .last) n (s .lost) current peer (k .low) (k .above) (k .within) (k .top) (ltb-true _ _ g) hn (k .is ∙ known-lost s e f)
-      by false false false e f g =
-          onward-fine (s .lower) (s .last - 1) (s .last) change n current peer (k .low) (omega (arith, k)) (omega (arith, k)) (omega (arith, k)) hc hn
-          (k .is ∙ known-lost s e f)
+  unfolding TurnFine
+  turn-fine change n hc hn =
+      turn-by (λ (u : Turn). TurnFine u current peer) s change n (λ e. tt)
+      (λ e z. onward-fine (s .last) (s .upper) (s .last) change n current peer (omega (arith, k)) (k .within) (omega arith) (k .top) hc hn (k .is ∙ sym (known-acked s e z)))
+      (λ e z l. sent-fine (s .lower) (s .upper) (s .last) n (s .lost) current peer (k .low) (k .above) (k .within) (k .top) l hn (k .is ∙ sym (known-lost s e z)))
+      (λ e z l. onward-fine (s .lower) (s .last - 1) (s .last) change n current peer (k .low) (omega (arith, k)) (omega (arith, k)) (omega (arith, k)) hc hn (k .is ∙ sym (known-lost s e z)))
 
   pub acked-fine : Fine (acked s) (s .last) peer
   unfolding acked known
@@ -162,7 +138,7 @@ module _ (s : SearchState) (current peer : ℕ) (k : Fine s current peer) where
         tries = omega arith;
         fly = λ h. never h;
         probe = omega arith;
-        is = k .is ∙ known-flying s e ∙ sym (rw (ne-eqb (min (s .lost) 2 + 1) 0 (λ z. omega arith)));
+        is = k .is ∙ sym (known-flying s e) ∙ sym (rw (ne-eqb (min (s .lost) 2 + 1) 0 (λ z. omega arith)));
       }
 
 -- the first turn of a search

@@ -5,7 +5,7 @@ use mathlib.Core.Bool.{Bool, true, false, cond, _&&_, _||_, not}
 use Prim.Native.Nat.{ℕ, _+_, _-_, _/_, _^_, _≤_, _<_, min, max}
 use native.Mathlib.Omega.{arith}
 use lib.Dec.{eqb, ltb, leb}
-use borrow.Author.Tests.{lt-ltb, le-ltb, le-leb, lt-leb, eq-eqb, ne-eqb}
+use borrow.Author.Tests.{ltb-true, ltb-false, eqb-true, eqb-false, lt-ltb, le-ltb, le-leb, lt-leb, eq-eqb, ne-eqb}
 use Rattle.mtu_search.specs.declared.SearchState.{SearchState}
 use Rattle.mtu_search.specs.declared.Turn.{Turn}
 use Rattle.mtu_search.specs.declared.Turn.the-variants.{Waiting, Probing, Over}
@@ -87,5 +87,32 @@ module _ (s : SearchState) where
         → r ≡ turn s change n
     unfolding turn
     turn-lost e z l eu er = rw (e, ne-eqb (s .lost) 0 z, le-ltb (s .lost) 3 l, ← eu) er
+
+-- ---- by cases: what holds of each outcome holds of the turn
+pub onward-by : (P : Turn → Type 0) (lower upper last change n : ℕ) → (chosen lower upper last change ≡ 0 → P Over)
+    → ((chosen lower upper last change ≡ 0 → ⊥) → P (Probing (sent lower upper (chosen lower upper last change) n 0))) → P (onward lower upper last change n)
+unfolding onward
+onward-by P lower upper last change n none some = by (eqb (chosen lower upper last change) 0) refl
+  where
+    by : (b : Bool) → eqb (chosen lower upper last change) 0 ≡ b → P (cond b Over (Probing (sent lower upper (chosen lower upper last change) n 0)))
+    by true e = none (eqb-true _ _ e)
+    by false e = some (eqb-false _ _ e)
+
+pub turn-by : (P : Turn → Type 0) (s : SearchState) (change n : ℕ) → (s .flying ≡ true → P Waiting)
+    → (s .flying ≡ false → s .lost ≡ 0 → P (onward (s .last) (s .upper) (s .last) change n))
+    → (s .flying ≡ false → (s .lost ≡ 0 → ⊥) → s .lost < 3 → P (Probing (sent (s .lower) (s .upper) (s .last) n (s .lost))))
+    → (s .flying ≡ false → (s .lost ≡ 0 → ⊥) → 3 ≤ s .lost → P (onward (s .lower) (s .last - 1) (s .last) change n)) → P (turn s change n)
+unfolding turn
+turn-by P s change n waits won again lost = by (s .flying) (eqb (s .lost) 0) (ltb (s .lost) 3) refl refl refl
+  where
+    by : (a b c : Bool) → s .flying ≡ a → eqb (s .lost) 0 ≡ b → ltb (s .lost) 3 ≡ c
+        → P
+        (cond a Waiting
+        (cond b (onward (s .last) (s .upper) (s .last) change n)
+        (cond c (Probing (sent (s .lower) (s .upper) (s .last) n (s .lost))) (onward (s .lower) (s .last - 1) (s .last) change n))))
+    by true b c e f g = waits e
+    by false true c e f g = won e (eqb-true _ _ f)
+    by false false true e f g = again e (eqb-false _ _ f) (ltb-true _ _ g)
+    by false false false e f g = lost e (eqb-false _ _ f) (ltb-false _ _ g)
 
 pub ruleset laws = (begun-is, onward-over, onward-sent, known-flying, known-acked, known-lost, good-is, acked-is, missed-is, turn-waiting, turn-won, turn-again, turn-lost)

@@ -13,6 +13,7 @@ use Rattle.mtu_search.specs.declared.Turn.{Turn}
 use Rattle.mtu_search.specs.declared.Turn.the-variants.{Waiting, Probing, Over}
 use Rattle.mtu_search.specs.Search.{begun, half, chosen, sent, onward, turn, acked, missed}
 use Rattle.mtu_search.specs.Measure.{edge, sizesMost, afterLost, sizesLeft, triesLeft, sizesIn, probesIn}
+use Rattle.mtu_search.proofs.Laws.{onward-by, turn-by}
 use Rattle.mtu_search.proofs.Kept.{Choice, nothing, middle, bound, choice, Fine}
 use Rattle.mtu_search.proofs.Levels.{up, levels-half, levels-mono, most-none, most-some}
 
@@ -119,11 +120,11 @@ new-size s lower upper z n change h =
       fresh = λ d. h;
     }
 
-again : (s : SearchState) (n change : ℕ) → s .flying ≡ false → eqb (s .lost) 0 ≡ false → s .lost < 3 → Less s (sent (s .lower) (s .upper) (s .last) n (s .lost)) change
+again : (s : SearchState) (n change : ℕ) → s .flying ≡ false → (s .lost ≡ 0 → ⊥) → s .lost < 3 → Less s (sent (s .lower) (s .upper) (s .last) n (s .lost)) change
 unfolding sizesIn probesIn triesLeft
 again s n change e f g =
     record {
-      probes = rw (e, f) (omega arith);
+      probes = rw (e, ne-eqb (s .lost) 0 f) (omega arith);
       sizes = omega arith;
       fresh = λ d. absurd (d refl);
     }
@@ -136,12 +137,10 @@ TurnLess Over s change = Unit
 onward-less : (s : SearchState) (lower upper last change n : ℕ)
     → ((z : ℕ) → Choice lower upper last change z → (z ≡ 0 → ⊥) → sizesLeft lower upper z change < sizesIn s change)
     → TurnLess (onward lower upper last change n) s change
-unfolding onward TurnLess
-onward-less s lower upper last change n f = by (eqb (chosen lower upper last change) 0) refl
-  where
-    by : (t : Bool) → eqb (chosen lower upper last change) 0 ≡ t → TurnLess (cond t Over (Probing (sent lower upper (chosen lower upper last change) n 0))) s change
-    by true h = tt
-    by false h = new-size s lower upper (chosen lower upper last change) n change (f (chosen lower upper last change) (choice lower upper last change) (eqb-false _ _ h))
+unfolding TurnLess
+onward-less s lower upper last change n f =
+    onward-by (λ (u : Turn). TurnLess u s change) lower upper last change n (λ h. tt)
+    (λ h. new-size s lower upper (chosen lower upper last change) n change (f (chosen lower upper last change) (choice lower upper last change) h))
 
 module _ (s : SearchState) (current peer : ℕ) (k : Fine s current peer) (fits : peer ≤ 65536) (change : ℕ) (c : 0 < change) where
   -- what is left is counted at the larger of the two outcomes
@@ -154,23 +153,16 @@ module _ (s : SearchState) (current peer : ℕ) (k : Fine s current peer) (fits 
   lost-most = omega arith
 
   pub turn-less : (n : ℕ) → TurnLess (turn s change n) s change
-  unfolding turn TurnLess
-  turn-less n = by (s .flying) (eqb (s .lost) 0) (ltb (s .lost) 3) refl refl refl
-    where
-      by : (a b d : Bool) → s .flying ≡ a → eqb (s .lost) 0 ≡ b → ltb (s .lost) 3 ≡ d
-          → TurnLess
-          (cond a Waiting
-          (cond b (onward (s .last) (s .upper) (s .last) change n)
-          (cond d (Probing (sent (s .lower) (s .upper) (s .last) n (s .lost))) (onward (s .lower) (s .last - 1) (s .last) change n))))
-          s change
-      by true b d e f g = tt
-      by false true d e f g =
-          onward-less s (s .last) (s .upper) (s .last) change n
-          (λ z x o. omega (arith, won-falls (s .last) (s .upper) change (k .within) c (omega (arith, k)) z x o .1, won-most))
-      by false false true e f g = again s n change e f (ltb-true _ _ g)
-      by false false false e f g =
-          onward-less s (s .lower) (s .last - 1) (s .last) change n
-          (λ z x o. omega (arith, lost-falls (s .lower) (s .last - 1) change (omega (arith, k)) c (omega (arith, k)) (s .last) z (omega (arith, k)) x o, lost-most))
+  unfolding TurnLess
+  turn-less n =
+      turn-by (λ (u : Turn). TurnLess u s change) s change n (λ e. tt)
+      (λ e z.
+      onward-less s (s .last) (s .upper) (s .last) change n
+      (λ x i o. omega (arith, won-falls (s .last) (s .upper) change (k .within) c (omega (arith, k)) x i o .1, won-most)))
+      (λ e z l. again s n change e z l)
+      (λ e z l.
+      onward-less s (s .lower) (s .last - 1) (s .last) change n
+      (λ x i o. omega (arith, lost-falls (s .lower) (s .last - 1) change (omega (arith, k)) c (omega (arith, k)) (s .last) x (omega (arith, k)) i o, lost-most)))
 
   pub acked-left : probesIn (acked s) change ≤ probesIn s change
   unfolding probesIn sizesIn triesLeft acked
@@ -202,8 +194,14 @@ first-size lower upper z n change w h = (h, omega arith)
 
 pub first-turn : (current peer top change n : ℕ) → current ≤ peer → peer ≤ 65536 → 0 < change
     → TurnFirst (turn (begun current peer top) change n) change (min top peer - current)
-unfolding turn begun onward TurnFirst
-first-turn current peer top change n a b c = by (eqb (chosen lower upper lower change) 0) refl
+unfolding turn begun TurnFirst
+first-turn current peer top change n a b c =
+    onward-by (λ (u : Turn). TurnFirst u change w) lower upper lower change n (λ h. tt)
+    (λ h.
+    let z = chosen lower upper lower change in
+    let f = won-falls lower upper change (omega arith) c (omega arith) z (choice lower upper lower change) h in
+    let e : upper - lower ≡ w = omega arith in
+    (omega (arith, f .0), first-size lower upper z n change w (omega (arith, f .1, ap (λ (x : ℕ). sizesMost change x) e))))
   where
     lower : ℕ
     lower = min current peer
@@ -213,11 +211,3 @@ first-turn current peer top change n a b c = by (eqb (chosen lower upper lower c
 
     w : ℕ
     w = min top peer - current
-
-    by : (t : Bool) → eqb (chosen lower upper lower change) 0 ≡ t → TurnFirst (cond t Over (Probing (sent lower upper (chosen lower upper lower change) n 0))) change w
-    by true h = tt
-    by false h =
-        let z = chosen lower upper lower change in
-        let f = won-falls lower upper change (omega arith) c (omega arith) z (choice lower upper lower change) (eqb-false _ _ h) in
-        let e : upper - lower ≡ w = omega arith in
-        (omega (arith, f .0), first-size lower upper z n change w (omega (arith, f .1, ap (λ (x : ℕ). sizesMost change x) e)))

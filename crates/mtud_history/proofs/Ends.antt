@@ -15,6 +15,7 @@ use Rattle.mtu_search.specs.declared.Turn.the-variants.{Waiting, Probing, Over}
 use Rattle.mtu_search.specs.Search as search
 use Rattle.mtu_search.specs.Measure.{shortfall}
 use Rattle.answers.proofs.Tests.{never}
+use Rattle.mtu_search.proofs.Laws.{onward-by, turn-by}
 use Rattle.mtu_search.proofs.Kept.{TurnFine, turn-fine}
 use Rattle.mtu_phase.specs.declared.Phase.the-variants.{Searching, Complete}
 use Rattle.mtu_phase.specs.declared.InFlight.{InFlight}
@@ -111,27 +112,13 @@ rests-over m now Over w k = refl
 
 -- a turn with nothing in flight is not `Waiting`
 onward-moves : (lower upper last change n : ℕ) → (Waiting ≡ search.onward lower upper last change n) → ⊥
-unfolding search.onward
-onward-moves lower upper last change n = by (eqb (search.chosen lower upper last change) 0)
-  where
-    by : (b : Bool) → Waiting ≡ cond b Over (Probing (search.sent lower upper (search.chosen lower upper last change) n 0)) → ⊥
-    by true e = let z : _≡_ {A = ℕ} 0 1 = cc in omega arith
-    by false e = let z : _≡_ {A = ℕ} 0 1 = cc in omega arith
+onward-moves lower upper last change n =
+    onward-by (λ (u : Turn). Waiting ≡ u → ⊥) lower upper last change n (λ h e. let z : _≡_ {A = ℕ} 0 1 = cc in omega arith) (λ h e. let z : _≡_ {A = ℕ} 0 1 = cc in omega arith)
 
 pub turn-moves : (s : SearchState) (change n : ℕ) → s .flying ≡ false → (Waiting ≡ search.turn s change n) → ⊥
-unfolding search.turn
-turn-moves s change n f = by (s .flying) f (eqb (s .lost) 0) (ltb (s .lost) 3)
-  where
-    by : (a : Bool) → a ≡ false → (b d : Bool)
-        → Waiting
-        ≡ cond a Waiting
-        (cond b (search.onward (s .last) (s .upper) (s .last) change n)
-        (cond d (Probing (search.sent (s .lower) (s .upper) (s .last) n (s .lost))) (search.onward (s .lower) (s .last - 1) (s .last) change n)))
-        → ⊥
-    by true f b d e = never (sym f)
-    by false f true d e = onward-moves (s .last) (s .upper) (s .last) change n e
-    by false f false true e = let z : _≡_ {A = ℕ} 0 1 = cc in omega arith
-    by false f false false e = onward-moves (s .lower) (s .last - 1) (s .last) change n e
+turn-moves s change n f =
+    turn-by (λ (u : Turn). Waiting ≡ u → ⊥) s change n (λ h e. never (sym f ∙ h)) (λ h z. onward-moves (s .last) (s .upper) (s .last) change n)
+    (λ h z l e. let y : _≡_ {A = ℕ} 0 1 = cc in omega arith) (λ h z l. onward-moves (s .lower) (s .last - 1) (s .last) change n)
 
 pub turned-moves : (m : MtuDiscovery) (now : ℕ) (u : Turn) → (Waiting ≡ u → ⊥) → TurnFine u (m .current) (m .peer) → now + m .config .interval < 2 ^ 64
     → ((turned u m now .answer ≡ 0) × (turned u m now .value ≡ 0 → ⊥)) ⊎ Rests m now (turned u m now)

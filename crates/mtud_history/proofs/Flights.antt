@@ -9,6 +9,7 @@ use Rattle.mtu_search.specs.declared.SearchState.{SearchState}
 use Rattle.mtu_search.specs.declared.Turn.{Turn}
 use Rattle.mtu_search.specs.declared.Turn.the-variants.{Waiting, Probing, Over}
 use Rattle.mtu_search.specs.Search as search
+use Rattle.mtu_search.proofs.Laws.{onward-by, turn-by}
 use Rattle.answers.proofs.Tests.{both}
 use Rattle.mtu_phase.specs.declared.Phase.{Phase}
 use Rattle.mtu_phase.specs.declared.Phase.the-variants.{Off, Initial, Searching, Complete}
@@ -25,27 +26,14 @@ TurnFlies (Probing t) n = (t .flying ≡ true) × (t .probe ≡ n)
 TurnFlies Over n = Unit
 
 onward-flies : (lower upper last change n : ℕ) → TurnFlies (search.onward lower upper last change n) n
-unfolding search.onward TurnFlies
-onward-flies lower upper last change n = by (eqb (search.chosen lower upper last change) 0)
-  where
-    by : (b : Bool) → TurnFlies (cond b Over (Probing (search.sent lower upper (search.chosen lower upper last change) n 0))) n
-    by true = tt
-    by false = (refl, refl)
+unfolding TurnFlies
+onward-flies lower upper last change n = onward-by (λ (u : Turn). TurnFlies u n) lower upper last change n (λ h. tt) (λ h. (refl, refl))
 
 turn-flies : (s : SearchState) (change n : ℕ) → TurnFlies (search.turn s change n) n
-unfolding search.turn TurnFlies
-turn-flies s change n = by (s .flying) (eqb (s .lost) 0) (ltb (s .lost) 3)
-  where
-    by : (a b d : Bool)
-        → TurnFlies
-        (cond a Waiting
-        (cond b (search.onward (s .last) (s .upper) (s .last) change n)
-        (cond d (Probing (search.sent (s .lower) (s .upper) (s .last) n (s .lost))) (search.onward (s .lower) (s .last - 1) (s .last) change n))))
-        n
-    by true b d = tt
-    by false true d = onward-flies (s .last) (s .upper) (s .last) change n
-    by false false true = (refl, refl)
-    by false false false = onward-flies (s .lower) (s .last - 1) (s .last) change n
+unfolding TurnFlies
+turn-flies s change n =
+    turn-by (λ (u : Turn). TurnFlies u n) s change n (λ e. tt) (λ e z. onward-flies (s .last) (s .upper) (s .last) change n) (λ e z l. (refl, refl))
+    (λ e z l. onward-flies (s .lower) (s .last - 1) (s .last) change n)
 
 -- in m a probe of size x is in flight as packet n
 pub record Sent (m : MtuDiscovery) (n x : ℕ) : Type 0 where

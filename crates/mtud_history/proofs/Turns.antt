@@ -10,6 +10,7 @@ use Rattle.mtu_search.specs.declared.SearchState.{SearchState}
 use Rattle.mtu_search.specs.declared.Turn.{Turn}
 use Rattle.mtu_search.specs.declared.Turn.the-variants.{Waiting, Probing, Over}
 use Rattle.mtu_search.specs.Search.{begun, chosen, sent, onward, turn}
+use Rattle.mtu_search.proofs.Laws.{onward-by, turn-by}
 use Rattle.mtu_search.proofs.Kept.{choice, chosen-between, Fine}
 
 unfoldable pub TurnSends : Turn → ℕ → Type 0
@@ -18,27 +19,14 @@ TurnSends (Probing t) top = (t .flying ≡ true) × (t .upper ≤ top)
 TurnSends Over top = Unit
 
 onward-sends : (lower upper last change n top : ℕ) → ((chosen lower upper last change ≡ 0 → ⊥) → upper ≤ top) → TurnSends (onward lower upper last change n) top
-unfolding onward TurnSends
-onward-sends lower upper last change n top h = by (eqb (chosen lower upper last change) 0) refl
-  where
-    by : (b : Bool) → eqb (chosen lower upper last change) 0 ≡ b → TurnSends (cond b Over (Probing (sent lower upper (chosen lower upper last change) n 0))) top
-    by true e = tt
-    by false e = (refl, h (eqb-false _ _ e))
+unfolding TurnSends
+onward-sends lower upper last change n top h = onward-by (λ (u : Turn). TurnSends u top) lower upper last change n (λ e. tt) (λ e. (refl, h e))
 
 pub turn-sends : (s : SearchState) (current peer : ℕ) → Fine s current peer → (change n top : ℕ) → s .upper ≤ top → TurnSends (turn s change n) top
-unfolding turn TurnSends
-turn-sends s current peer k change n top h = by (s .flying) (eqb (s .lost) 0) (ltb (s .lost) 3)
-  where
-    by : (a b c : Bool)
-        → TurnSends
-        (cond a Waiting
-        (cond b (onward (s .last) (s .upper) (s .last) change n)
-        (cond c (Probing (sent (s .lower) (s .upper) (s .last) n (s .lost))) (onward (s .lower) (s .last - 1) (s .last) change n))))
-        top
-    by true b c = tt
-    by false true c = onward-sends (s .last) (s .upper) (s .last) change n top (λ d. h)
-    by false false true = (refl, h)
-    by false false false = onward-sends (s .lower) (s .last - 1) (s .last) change n top (λ d. omega (arith, k, h))
+unfolding TurnSends
+turn-sends s current peer k change n top h =
+    turn-by (λ (u : Turn). TurnSends u top) s change n (λ e. tt) (λ e z. onward-sends (s .last) (s .upper) (s .last) change n top (λ d. h)) (λ e z l. (refl, h))
+    (λ e z l. onward-sends (s .lower) (s .last - 1) (s .last) change n top (λ d. omega (arith, k, h)))
 
 -- a first probe lies above the lower bound, so the upper bound is the configured one, or the peer's maximum below it
 pub first-sends : (current peer top change n : ℕ) → 0 < change → TurnSends (turn (begun current peer top) change n) top
