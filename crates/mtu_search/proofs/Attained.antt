@@ -16,7 +16,7 @@ use Rattle.mtu_search.specs.Count.{times, sizes}
 use Rattle.mtu_search.proofs.Laws.{chosen-half, chosen-upper, chosen-none, onward-sent, onward-over, turn-won, turn-again, turn-lost, known-lost}
 use Rattle.mtu_search.proofs.Levels.{up, levels-stop, levels-half, most-some}
 use Rattle.mtu_search.proofs.Counts.{times-here, times-none, sizes-old, sizes-new, sizes-none}
-use Rattle.mtu_search.proofs.History.{Poll, Steps, opens, probes, acks, loses, Fit, sure}
+use Rattle.mtu_search.proofs.History.{Poll, Steps, opens, probes, acks, loses, Passes, Stops, Fit, sure}
 
 -- half way between the last size and the upper bound
 abbrev middle : SearchState → ℕ
@@ -28,7 +28,7 @@ module _ (current peer top change : ℕ) (fit : Fit current peer change) (three 
   largest = min top peer - 1
 
   abbrev pub Passing : List ℕ → SearchState → Type 0
-  Passing zs s = Steps (λ (x : ℕ). x ≤ largest) (λ (x : ℕ). largest < x) current peer top change zs s
+  Passing zs s = Steps (Passes largest) (Stops largest) current peer top change zs s
 
   -- before the first probe, and after some
   data At : List ℕ → SearchState → Type 0 where
@@ -43,10 +43,10 @@ module _ (current peer top change : ℕ) (fit : Fit current peer change) (three 
   untried : {zs : List ℕ} {s : SearchState} → At zs s → (x : ℕ) → s .last < x → x ≤ s .upper → times x zs ≡ 0
   untried fresh x h l = times-none x
   untried (on {zs} {s} k) x h l =
-      let g = sure (λ (x : ℕ). x ≤ largest) (λ (x : ℕ). largest < x) current peer top change fit k in
+      let g = sure (Passes largest) (Stops largest) current peer top change fit k in
       g .counts .between x (omega (arith, g .fine)) l (λ e. omega arith)
 
-  -- a search after its first probe or its newest acknowledgement, under the upper bound
+  -- a search before its first probe, or after an acknowledgement, below the upper bound
   record Won (zs : List ℕ) (s : SearchState) : Type 0 where
     pub at : At zs s
     pub idle : s .flying ≡ false
@@ -125,7 +125,7 @@ module _ (current peer top change : ℕ) (fit : Fit current peer change) (three 
         let t = sent (s .last) (s .upper - 1) x 0 0 in
         let i = turn-lost (dropped zs s k 3) change 0 refl (λ z. omega arith) (omega arith) refl (onward-sent (s .last) (s .upper - 1) (s .upper) change 0 (sym c) (λ z. omega arith)) in
         let u = s .upper in
-        let g = sure (λ (y : ℕ). y ≤ largest) (λ (y : ℕ). largest < y) current peer top change fit p in
+        let g = sure (Passes largest) (Stops largest) current peer top change fit p in
         let new = sizes-new x (u ∷ u ∷ u ∷ zs) (g .counts .between x (omega arith) (omega arith) (λ z. omega arith)) in
         let second = sizes-old u (u ∷ u ∷ zs) (omega (arith, times-here u (u ∷ zs))) in
         let first = sizes-old u (u ∷ zs) (omega (arith, times-here u zs)) in

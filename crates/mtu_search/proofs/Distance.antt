@@ -1,13 +1,13 @@
--- How near a search comes: on a path that passes exactly the sizes up to S it ends at most 2 m - 4 below S, m being the minimum change, from 3 on.
--- Throughout, S lies between the bounds; where no size is chosen, the bounds are that near to each other. Assumes nothing.
+-- How near a search comes: on a path that passes exactly the sizes up to S it ends at most 2 m - 4 below S, m being the minimum change, or 1 where m is 1
+-- or 2. Throughout, S lies between the bounds; where no size is chosen, the bounds are that near to each other. Assumes nothing.
 use mathlib.Core.Path.{_≡_, refl, ap, sym, _∙_, subst}
 use mathlib.Core.Bool.{Bool, true, false, cond}
 use mathlib.Core.List.{List}
 use mathlib.Core.Logic.{_⊎_, inl, inr}
 use Prim.Native.Nat.{ℕ, _+_, _-_, _*_, _≤_, _<_, min, max}
 use native.Mathlib.Omega.{arith}
-use lib.Dec.{eqb, ltb, leb}
-use borrow.Author.Tests.{ltb-true, ltb-false, leb-true, leb-false, eqb-true}
+use lib.Dec.{ltb, leb}
+use borrow.Author.Tests.{ltb-true, ltb-false, leb-true, leb-false}
 use Rattle.mtu_search.specs.declared.SearchState.{SearchState}
 use Rattle.mtu_search.specs.declared.Turn.{Turn}
 use Rattle.mtu_search.specs.declared.Turn.the-variants.{Waiting, Probing, Over}
@@ -16,7 +16,7 @@ use Rattle.answers.proofs.Tests.{never}
 use Rattle.mtu_search.specs.Measure.{shortfall}
 use Rattle.mtu_search.proofs.Laws.{onward-by, turn-by, known-acked, known-lost}
 use Rattle.mtu_search.proofs.Kept.{Fine}
-use Rattle.mtu_search.proofs.History.{New, Poll, Steps, opens, probes, acks, loses, Fit, sure}
+use Rattle.mtu_search.proofs.History.{New, Poll, Steps, opens, probes, acks, loses, Passes, Stops, Fit, sure}
 
 -- ---- where no size is chosen
 -- half way is the lower bound; or half way and the upper bound are both nearer to the last size than the change
@@ -109,7 +109,7 @@ module _ (S current peer top change : ℕ) (fit : Fit current peer change) (low 
 
   -- each probe that is acknowledged has at most the size S, each that is lost more
   abbrev pub Honest : List ℕ → SearchState → Type 0
-  Honest zs s = Steps (λ (x : ℕ). x ≤ S) (λ (x : ℕ). S < x) current peer top change zs s
+  Honest zs s = Steps (Passes S) (Stops S) current peer top change zs s
 
   pub straight : {zs : List ℕ} {s : SearchState} → Honest zs s → Straight S s
   unfolding TurnStraight
@@ -117,7 +117,7 @@ module _ (S current peer top change : ℕ) (fit : Fit current peer change) (low 
       let i : Probing t ≡ turn (begun current peer top) change n = e ∙ ap (λ (x : SearchState). turn x change n) d in
       subst (λ (x : Turn). TurnStraight x S change current) (sym i) (first-straight n)
   straight (probes {zs} {s} n t k e h) =
-      let g = sure (λ (x : ℕ). x ≤ S) (λ (x : ℕ). S < x) current peer top change fit k in
+      let g = sure (Passes S) (Stops S) current peer top change fit k in
       subst (λ (x : Turn). TurnStraight x S change (known s)) (sym e) (turn-straight S s (g .mtu) peer change n (g .fine) (fit .some) (straight k))
   straight (acks {zs} {s} t k g a e) = subst (λ (x : SearchState). Straight S x) (sym e) (acked-straight S s (straight k) a)
   straight (loses {zs} {s} t k g a e) = subst (λ (x : SearchState). Straight S x) (sym e) (missed-straight S s (straight k) a)
@@ -126,7 +126,7 @@ module _ (S current peer top change : ℕ) (fit : Fit current peer change) (low 
   pub steps-near : {zs : List ℕ} {s : SearchState} (n : ℕ) → Honest zs s → Poll s change n Over → (known s ≤ S) × (S - known s ≤ shortfall change)
   unfolding TurnStraight
   steps-near {zs} {s} n k e =
-      let g = sure (λ (x : ℕ). x ≤ S) (λ (x : ℕ). S < x) current peer top change fit k in
+      let g = sure (Passes S) (Stops S) current peer top change fit k in
       subst (λ (x : Turn). TurnStraight x S change (known s)) (sym e) (turn-straight S s (g .mtu) peer change n (g .fine) (fit .some) (straight k))
 
   -- and so where none was sent

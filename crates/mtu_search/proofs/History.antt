@@ -47,6 +47,13 @@ pub data Steps (Ack Miss : ℕ → Type 0) (current peer top change : ℕ) : Lis
 abbrev pub Any : ℕ → Type 0
 Any x = Unit
 
+-- of a path that passes exactly the sizes up to S
+abbrev pub Passes : ℕ → ℕ → Type 0
+Passes S x = x ≤ S
+
+abbrev pub Stops : ℕ → ℕ → Type 0
+Stops S x = S < x
+
 -- settings that a call passes
 pub record Fit (current peer change : ℕ) : Type 0 where
   pub low : 1200 ≤ current

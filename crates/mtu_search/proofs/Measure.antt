@@ -1,12 +1,11 @@
 -- A search ends, whatever is acknowledged and lost: each new size takes one off `sizesIn`, each probe one off `probesIn`. A search whose bounds are w apart
 -- tries at most `sizesMost change w` sizes. By the three choices that a turn has (Kept, `Choice`). Assumes nothing.
 use mathlib.Core.Path.{_≡_, refl, ap}
-use mathlib.Core.Bool.{Bool, true, false, cond}
+use mathlib.Core.Bool.{true, false}
 use mathlib.Core.Logic.{⊎-elim}
 use Prim.Native.Nat.{ℕ, suc, _+_, _-_, _*_, _/_, _≤_, _<_, min, max}
 use native.Mathlib.Omega.{arith}
-use lib.Dec.{eqb, ltb}
-use borrow.Author.Tests.{ltb-true, eqb-false, lt-ltb, le-ltb, ne-eqb}
+use borrow.Author.Tests.{lt-ltb, le-ltb, ne-eqb}
 use Rattle.answers.proofs.Tests.{split}
 use Rattle.mtu_search.specs.declared.SearchState.{SearchState}
 use Rattle.mtu_search.specs.declared.Turn.{Turn}

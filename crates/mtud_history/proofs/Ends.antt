@@ -1,12 +1,11 @@
--- How a search ends: once no probe is in flight, a poll sends the next one or rests, so that after the last size a poll rests, and no probe goes out until the
--- rest is over; and on a path that passes exactly the sizes up to S the MTU is then at most 2 m - 4 below S. Assumes nothing.
+-- How a search ends: on a path that passes exactly the sizes up to S the MTU is then near S; and once no probe is in flight a poll sends the next one or rests,
+-- so that after the last size it rests. By the search's own turn (mtu_search, Distance). Assumes nothing.
 use mathlib.Core.Path.{_≡_, refl, ap, sym, _∙_, subst}
-use mathlib.Core.Bool.{Bool, true, false, cond, _&&_}
+use mathlib.Core.Bool.{Bool, true, false, cond}
 use mathlib.Core.List.{List}
 use mathlib.Core.Logic.{_⊎_, inl, inr}
 use Prim.Native.Nat.{ℕ, _+_, _-_, _*_, _^_, _≤_, _<_, min}
 use native.Mathlib.Omega.{arith}
-use lib.Dec.{eqb, ltb}
 use lib.ListN.{length}
 use borrow.Author.Tests.{lt-ltb}
 use Rattle.mtu_search.specs.declared.SearchState.{SearchState}
@@ -23,11 +22,12 @@ use Rattle.mtu_phase.specs.Phase.{searchingB, flyingOf, noneFlying}
 use Rattle.mtud.specs.declared.MtuDiscovery.{MtuDiscovery}
 use Rattle.mtud.specs.declared.Done.{Done}
 use Rattle.mtud.specs.declared.Size.{Size}
-use Rattle.mtud.specs.Discovery.{good, put, refused, done, rested, turned, byPhase, polled, inFlight}
+use Rattle.mtud.specs.Discovery.{good, rested, turned, byPhase, polled, inFlight}
+use Rattle.mtud_history.proofs.Cases.{polled-by, rested-by}
 use Rattle.mtud_history.proofs.Calls.{Poll, Flying, CurrentMtu}
 use Rattle.mtud_history.proofs.Kept.{Held, held-good, change-some, polled-held}
 use Rattle.mtud_history.proofs.History.{size-is}
-use Rattle.mtu_search.proofs.History.{Any}
+use Rattle.mtu_search.proofs.History.{Any, Passes, Stops}
 use Rattle.mtu_search.proofs.Distance.{steps-near}
 use Rattle.mtud_history.proofs.Searches.{Search, sends, startOf, Obeys, free, Going, going, fine, turn-is, turn-at, runs}
 use Rattle.mtud_history.proofs.Sizes.{sizesOf, search-sizes}
@@ -40,51 +40,35 @@ poll-is m now n g h = rw (g, lt-ltb n (2 ^ 62) h)
 -- ---- where the search has ended, it was over, and the MTU is as it was
 over-by : (m : MtuDiscovery) (now : ℕ) (u : Turn) → searchingB (m .phase) ≡ true → searchingB (turned u m now .mtud .phase) ≡ false
     → (Over ≡ u) × (turned u m now .mtud .current ≡ m .current)
-unfolding turned rested searchingB
+unfolding turned searchingB
 over-by m now Waiting g e = never (sym e ∙ g)
 over-by m now (Probing s) g e = never (sym e)
-over-by m now Over g e = (refl, rests (ltb (now + m .config .interval) (2 ^ 64)))
-  where
-    rests : (b : Bool) → cond {A = Done} b (done (put m (m .current) (Complete (now + m .config .interval)) (m .detector)) 0) (refused m 2) .mtud .current ≡ m .current
-    rests true = refl
-    rests false = refl
+over-by m now Over g e = (refl, rested-by (λ (r : Done). r .mtud .current ≡ m .current) m (m .current) (m .detector) now (m .config .interval) 0 (λ h. refl) refl)
 
 -- ---- a search on a path that passes exactly the sizes up to S
 module _ (S : ℕ) where
-  abbrev pub Passes : ℕ → Type 0
-  Passes x = x ≤ S
-
-  abbrev pub Stops : ℕ → Type 0
-  Stops x = S < x
-
-  near-by : (o : MtuDiscovery) (zs : List ℕ) (m : MtuDiscovery) (k : Going Passes Stops o zs m) → o .current ≤ S → S ≤ min (o .config .upper) (o .peer)
+  near-by : (o : MtuDiscovery) (zs : List ℕ) (m : MtuDiscovery) (k : Going (Passes S) (Stops S) o zs m) → o .current ≤ S → S ≤ min (o .config .upper) (o .peer)
       → (now n : ℕ) → searchingB (polled m now n .mtud .phase) ≡ false
       → (polled m now n .mtud .current ≤ S) × (S - polled m now n .mtud .current ≤ shortfall (o .config .change))
-  unfolding polled
-  near-by o zs m k lo hi now n = by (good m && ltb n (2 ^ 62))
-    where
-      on : searchingB (m .phase) ≡ true
-      on = runs Passes Stops o zs m k
-
-      by : (b : Bool) → searchingB (cond {A = Done} b (byPhase (m .phase) m now n) (refused m 2) .mtud .phase) ≡ false
-          → (cond {A = Done} b (byPhase (m .phase) m now n) (refused m 2) .mtud .current ≤ S)
-          × (S - cond {A = Done} b (byPhase (m .phase) m now n) (refused m 2) .mtud .current ≤ shortfall (o .config .change))
-      by false e = never (sym e ∙ on)
-      by true e =
-          let i = turn-is Passes Stops o zs m k now n in
-          let v = over-by m now (search.turn (k .state) (m .config .change) n) on (ap (λ (r : Done). searchingB (r .mtud .phase)) (sym i) ∙ e) in
-          let x = steps-near S (o .current) (o .peer) (o .config .upper) (o .config .change) (k .fit) lo hi n (k .steps) (v .0 ∙ turn-at Passes Stops o zs m k n) in
-          let c : byPhase (m .phase) m now n .mtud .current ≡ search.known (k .state) = ap (λ (r : Done). r .mtud .current) i ∙ v .1 ∙ fine Passes Stops o zs m k .1 .is in
-          rw c x
+  near-by o zs m k lo hi now n =
+      let on : searchingB (m .phase) ≡ true = runs (Passes S) (Stops S) o zs m k in
+      polled-by (λ (r : Done). searchingB (r .mtud .phase) ≡ false → (r .mtud .current ≤ S) × (S - r .mtud .current ≤ shortfall (o .config .change))) m now n
+      (λ hn e.
+      let i = turn-is (Passes S) (Stops S) o zs m k now n in
+      let v = over-by m now (search.turn (k .state) (m .config .change) n) on (ap (λ (r : Done). searchingB (r .mtud .phase)) (sym i) ∙ e) in
+      let x = steps-near S (o .current) (o .peer) (o .config .upper) (o .config .change) (k .fit) lo hi n (k .steps) (v .0 ∙ turn-at (Passes S) (Stops S) o zs m k n) in
+      let c : byPhase (m .phase) m now n .mtud .current ≡ search.known (k .state) = ap (λ (r : Done). r .mtud .current) i ∙ v .1 ∙ fine (Passes S) (Stops S) o zs m k .1 .is in
+      rw c x)
+      (λ e. never (sym e ∙ on))
 
   -- the theorem: each probe of a size up to S that is answered is acknowledged, each larger one is lost; S is at least the MTU at the start, and at most the
   -- upper bound. Where a poll ends that search, the MTU is at most S, and below it by at most 2 m - 4, m being the minimum change, or by 1 where m is 1 or 2
-  pub search-near : {zs : List ℕ} {m : MtuDiscovery} (h : Search zs m) → Obeys Passes Stops h → startOf h .current ≤ S
+  pub search-near : {zs : List ℕ} {m : MtuDiscovery} (h : Search zs m) → Obeys (Passes S) (Stops S) h → startOf h .current ≤ S
       → S ≤ min (startOf h .config .upper) (startOf h .peer) → (now n : ℕ) (r : Done) (c : Size) → Poll m now n r → searchingB (r .mtud .phase) ≡ false
       → CurrentMtu (r .mtud) c → (c .answer ≡ 0) × ((c .size ≤ S) × (S - c .size ≤ shortfall (startOf h .config .change)))
   search-near {zs} {m} h a lo hi now n r c e f g =
       let o = startOf h in
-      let k = going Passes Stops h a in
+      let k = going (Passes S) (Stops S) h a in
       let x = near-by o zs m k lo hi now n (ap (λ (d : Done). searchingB (d .mtud .phase)) (sym e) ∙ f) in
       let i : r .mtud .current ≡ polled m now n .mtud .current = ap (λ (d : Done). d .mtud .current) e in
       let j = subst (λ (d : Done). Held (d .mtud) (k .peer)) (sym e) (polled-held m (k .peer) (k .held) now n) in

@@ -1,9 +1,8 @@
 -- What a call leaves of the probe in flight: a poll that asks for a probe leaves that one in flight, under the number it was given; once that number is
 -- acknowledged, or the probe is lost, none is. By the cases of the definitions. Assumes nothing.
 use mathlib.Core.Path.{_≡_, refl, ap, _∙_}
-use mathlib.Core.Bool.{Bool, true, false, cond, _&&_}
+use mathlib.Core.Bool.{true, false}
 use Prim.Native.Nat.{ℕ, _-_, _^_, _≤_, _<_}
-use lib.Dec.{eqb, ltb}
 use borrow.Author.Tests.{lt-ltb, le-leb, eq-eqb}
 use Rattle.mtu_search.specs.declared.SearchState.{SearchState}
 use Rattle.mtu_search.specs.declared.Turn.{Turn}
@@ -16,7 +15,8 @@ use Rattle.mtu_phase.specs.declared.Phase.the-variants.{Off, Initial, Searching
 use Rattle.mtu_phase.specs.Phase.{packetB}
 use Rattle.mtud.specs.declared.MtuDiscovery.{MtuDiscovery}
 use Rattle.mtud.specs.declared.Done.{Done}
-use Rattle.mtud.specs.Discovery.{good, at, refused, done, begunIn, turned, turnIn, byPhase, polled, isProbe, probeDelivered, byAcked, acked, byLost, probeLost}
+use Rattle.mtud.specs.Discovery.{good, at, done, begunIn, turned, byPhase, polled, isProbe, probeDelivered, byAcked, acked, byLost, probeLost}
+use Rattle.mtud_history.proofs.Cases.{polled-by, complete-by}
 use Rattle.mtud_history.proofs.Searches.{over-none}
 
 -- a turn's probe has the number that it was given, and is in flight
@@ -55,22 +55,13 @@ module _ (m : MtuDiscovery) (now n : ℕ) where
   phase-sent Off d = absurd (d refl)
   phase-sent Initial d = turned-sent (search.turn (begunIn m) (m .config .change) n) (turn-flies (begunIn m) (m .config .change) n) d
   phase-sent (Searching s) d = turned-sent (search.turn s (m .config .change) n) (turn-flies s (m .config .change) n) d
-  phase-sent (Complete until) d = by (ltb now until) d
-    where
-      by : (b : Bool) → (cond {A = Done} b (done m 0) (turnIn m (begunIn m) now n) .value ≡ 0 → ⊥)
-          → Sent (cond {A = Done} b (done m 0) (turnIn m (begunIn m) now n) .mtud) n (cond {A = Done} b (done m 0) (turnIn m (begunIn m) now n) .value)
-      by true d = absurd (d refl)
-      by false d = turned-sent (search.turn (begunIn m) (m .config .change) n) (turn-flies (begunIn m) (m .config .change) n) d
+  phase-sent (Complete until) d =
+      complete-by (λ (r : Done). (r .value ≡ 0 → ⊥) → Sent (r .mtud) n (r .value)) m until now n (λ e z. absurd (z refl))
+      (λ e. turned-sent (search.turn (begunIn m) (m .config .change) n) (turn-flies (begunIn m) (m .config .change) n)) d
 
   -- a poll that asks for a probe
   pub polled-sent : (polled m now n .value ≡ 0 → ⊥) → Sent (polled m now n .mtud) n (polled m now n .value)
-  unfolding polled
-  polled-sent = by (good m && ltb n (2 ^ 62))
-    where
-      by : (b : Bool) → (cond {A = Done} b (byPhase (m .phase) m now n) (refused m 2) .value ≡ 0 → ⊥)
-          → Sent (cond {A = Done} b (byPhase (m .phase) m now n) (refused m 2) .mtud) n (cond {A = Done} b (byPhase (m .phase) m now n) (refused m 2) .value)
-      by true d = phase-sent (m .phase) d
-      by false d = absurd (d refl)
+  polled-sent = polled-by (λ (r : Done). (r .value ≡ 0 → ⊥) → Sent (r .mtud) n (r .value)) m now n (λ hn. phase-sent (m .phase)) (λ d. absurd (d refl))
 
 -- a search with none in flight
 pub record Idle (m : MtuDiscovery) : Type 0 where

@@ -1,22 +1,21 @@
 -- The first search of a fresh record, by what `new` was given alone: it ends, it tries few sizes, and on a path that passes exactly the sizes up to S it ends
 -- near S. The record of `new` is due for a search, from the initial size, capped by the peer's maximum, up to the configured one (Plays). Assumes nothing.
 use mathlib.Core.Path.{_≡_, refl, ap, sym, _∙_, subst}
-use mathlib.Core.Bool.{Bool, true, false, cond, _&&_}
+use mathlib.Core.Bool.{Bool, true, false}
 use mathlib.Core.List.{List, []}
 use Prim.Native.Nat.{ℕ, _+_, _-_, _^_, _≤_, _<_, min}
 use native.Mathlib.Omega.{arith}
-use lib.Dec.{leb}
 use Rattle.mtu_search.specs.Measure.{sizesMost, shortfall}
 use Rattle.mtu_phase.specs.declared.MtuDiscoveryConfig.{MtuDiscoveryConfig}
 use Rattle.mtu_phase.specs.declared.Phase.{Phase}
 use Rattle.mtu_phase.specs.declared.Phase.the-variants.{Initial}
-use Rattle.mtu_phase.specs.Phase.{sizeB, goodConfig}
 use Rattle.mtud.specs.declared.PeerMax.{PeerMax}
 use Rattle.mtud.specs.declared.PeerMax.the-variants.{Unknown, Known}
 use Rattle.mtud.specs.declared.MtuDiscovery.{MtuDiscovery}
 use Rattle.mtud.specs.declared.Done.{Done}
-use Rattle.mtud.specs.Discovery.{refused, done, blank, opened, startedWith, started}
+use Rattle.mtud.specs.Discovery.{opened, startedWith, started}
 use Rattle.mtud_history.specs.Told.{peerOf}
+use Rattle.mtud_history.proofs.Cases.{started-by}
 use Rattle.mtud_history.proofs.Calls.{New}
 use Rattle.mtud_history.proofs.History.{begun}
 use Rattle.mtud_history.proofs.Plays.{Due, Ends, search-ends, Finds, search-finds}
@@ -36,13 +35,10 @@ module _ (initial least : ℕ) (q : PeerMax) (c : MtuDiscoveryConfig) where
     pub phase : m .phase ≡ Initial
 
   with-opened : (t : Bool) → startedWith initial least t (peerOf q) c .answer ≡ 0 → Opened (startedWith initial least t (peerOf q) c .mtud)
-  unfolding startedWith opened
-  with-opened t = by ((sizeB initial && sizeB least) && (leb least initial && (sizeB (peerOf q) && goodConfig c)))
-    where
-      by : (b : Bool) → cond {A = Done} b (done (opened initial least t (peerOf q) c Initial) 0) (refused blank 2) .answer ≡ 0
-          → Opened (cond {A = Done} b (done (opened initial least t (peerOf q) c Initial) 0) (refused blank 2) .mtud)
-      by true z = record { current = refl; peer = refl; config = refl; phase = refl }
-      by false z = absurd (omega arith)
+  unfolding opened
+  with-opened t =
+      started-by (λ (r : Done). r .answer ≡ 0 → Opened (r .mtud)) initial least t (peerOf q) c (λ i l s g z. record { current = refl; peer = refl; config = refl; phase = refl })
+      (λ z. absurd (omega arith))
 
 new-opened : (initial least : ℕ) (q : PeerMax) (c : MtuDiscoveryConfig) → started initial least q c .answer ≡ 0 → Opened initial least q c (started initial least q c .mtud)
 unfolding started

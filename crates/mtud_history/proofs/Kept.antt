@@ -1,33 +1,29 @@
 -- Every call keeps a record well formed: by the cases of its definition, with what the search and the detector keep of themselves.
 -- Assumes nothing.
-use mathlib.Core.Path.{_≡_, refl, ap, sym, _∙_}
-use mathlib.Core.Bool.{Bool, true, false, cond, _&&_, _||_}
-use mathlib.Core.Logic.{_⊎_, inl, inr, ⊎-elim}
-use Prim.Native.Nat.{ℕ, _+_, _-_, _^_, _≤_, _<_, min, max}
+use mathlib.Core.Path.{_≡_, refl}
+use mathlib.Core.Bool.{Bool, true, false, cond, _||_}
+use Prim.Native.Nat.{ℕ, _+_, _^_, _≤_, _<_, min}
 use native.Mathlib.Omega.{arith}
 use lib.Dec.{eqb, ltb, leb}
-use borrow.Author.Tests.{ltb-true, ltb-false, leb-true, leb-false, eqb-true, eqb-false, lt-ltb, le-ltb, le-leb, lt-leb, eq-eqb, ne-eqb}
+use borrow.Author.Tests.{ltb-true, leb-true, le-leb}
 use Rattle.black_hole.specs.declared.BlackHoleDetector.{BlackHoleDetector}
-use Rattle.black_hole.specs.declared.Detected.{Detected}
 use Rattle.black_hole.specs.BlackHole as hole
 use Rattle.black_hole.proofs.Kept.{Sound, fresh-sound, probe-sound, delivered-sound, lost-sound, detected-sound, sound-good}
-use Rattle.mtu_search.specs.declared.SearchState.{SearchState}
 use Rattle.mtu_search.specs.declared.Turn.{Turn}
 use Rattle.mtu_search.specs.declared.Turn.the-variants.{Waiting, Probing, Over}
 use Rattle.mtu_search.specs.Search as search
 use Rattle.answers.proofs.Tests.{fst, snd, both}
 use Rattle.mtu_search.proofs.Kept.{Fine, fine-good, TurnFine, turn-fine, first-fine, acked-fine, missed-fine}
 use Rattle.mtu_search.proofs.History.{acked-upper, missed-upper}
+use Rattle.mtud_history.proofs.Cases.{started-by, off-by, reset-by, polled-by, complete-by, rested-by, peer-by, acked-by, probe-by, lost-by, flying-by, packet-by, fallen-by, hole-by}
 use Rattle.mtud_history.proofs.Turns.{TurnSends, turn-sends, first-sends}
 use Rattle.mtu_phase.specs.declared.Phase.{Phase}
 use Rattle.mtu_phase.specs.declared.Phase.the-variants.{Off, Initial, Searching, Complete}
 use Rattle.mtu_phase.specs.declared.MtuDiscoveryConfig.{MtuDiscoveryConfig}
-use Rattle.mtud.specs.declared.PeerMax.{PeerMax}
-use Rattle.mtud.specs.declared.PeerMax.the-variants.{Unknown, Known}
 use Rattle.mtud.specs.declared.MtuDiscovery.{MtuDiscovery}
 use Rattle.mtud.specs.declared.Done.{Done}
 use Rattle.mtu_phase.specs.Phase.{sizeB, packetB, goodConfig, goodPhase, noConfig, restarted, searchingB, offB}
-use Rattle.mtud.specs.Discovery.{good, put, at, watching, refused, done, blank, opened, startedWith, started, switchedOff, resetTo, rested, begunIn, turned, turnIn, byPhase, polled, capped, peerReceived, isProbe, delivered, probeDelivered, byAcked, acked, byLost, probeLost, late, packetLost, fallen, byHole, holeAsked}
+use Rattle.mtud.specs.Discovery.{good, put, opened, startedWith, switchedOff, resetTo, rested, begunIn, turned, turnIn, byPhase, polled, peerReceived, delivered, byAcked, acked, byLost, probeLost, packetLost, fallen, holeAsked}
 
 -- ---- a good record, as facts
 unfoldable pub PhaseFine : Phase → MtuDiscoveryConfig → ℕ → ℕ → Type 0
@@ -125,56 +121,35 @@ opened-held x least told peer c p ex el lo hi et ph =
 
 pub started-held : (initial least : ℕ) (told : Bool) (peer : ℕ) (c : MtuDiscoveryConfig) → (told || eqb peer 65527) ≡ true → startedWith initial least told peer c .answer ≡ 0
     → Held (startedWith initial least told peer c .mtud) peer
-unfolding startedWith PhaseFine
-started-held initial least told peer c et = by ((sizeB initial && sizeB least) && (leb least initial && (sizeB peer && goodConfig c))) refl
-  where
-    by : (b : Bool) → ((sizeB initial && sizeB least) && (leb least initial && (sizeB peer && goodConfig c))) ≡ b
-        → cond {A = Done} b (done (opened initial least told peer c Initial) 0) (refused blank 2) .answer ≡ 0
-        → Held (cond {A = Done} b (done (opened initial least told peer c Initial) 0) (refused blank 2) .mtud) peer
-    by true e z =
-        let i = fst (sizeB initial && sizeB least) (leb least initial && (sizeB peer && goodConfig c)) e in
-        let q = snd (leb least initial) (sizeB peer && goodConfig c) (snd (sizeB initial && sizeB least) (leb least initial && (sizeB peer && goodConfig c)) e) in
-        let s = fst (sizeB peer) (goodConfig c) q in
-        opened-held initial least told peer c Initial (fst (sizeB initial) (sizeB least) i) (snd (sizeB initial) (sizeB least) i) (size-low peer s) (size-high peer s) et
-        (λ v. snd (sizeB peer) (goodConfig c) q)
-    by false e z = absurd (omega arith)
+unfolding PhaseFine
+started-held initial least told peer c et =
+    started-by (λ (r : Done). r .answer ≡ 0 → Held (r .mtud) peer) initial least told peer c
+    (λ i l s g z. opened-held initial least told peer c Initial i l (size-low peer s) (size-high peer s) et (λ v. g)) (λ z. absurd (omega arith))
 
 pub off-held : (x least : ℕ) → switchedOff x least .answer ≡ 0 → Held (switchedOff x least .mtud) 65527
-unfolding switchedOff PhaseFine
-off-held x least = by (sizeB x && sizeB least) refl
-  where
-    by : (b : Bool) → (sizeB x && sizeB least) ≡ b → cond {A = Done} b (done (opened x least false 65527 noConfig Off) 0) (refused blank 2) .answer ≡ 0
-        → Held (cond {A = Done} b (done (opened x least false 65527 noConfig Off) 0) (refused blank 2) .mtud) 65527
-    by true e z =
-        opened-held x least false 65527 noConfig Off (fst (sizeB x) (sizeB least) e) (snd (sizeB x) (sizeB least) e) (omega arith) (omega arith) refl (λ v. tt)
-    by false e z = absurd (omega arith)
+unfolding PhaseFine
+off-held x least =
+    off-by (λ (r : Done). r .answer ≡ 0 → Held (r .mtud) 65527) x least
+    (λ s l z. opened-held x least false 65527 noConfig Off s l (omega arith) (omega arith) refl (λ v. tt)) (λ z. absurd (omega arith))
 
 -- ---- the calls
 module _ (m : MtuDiscovery) (p : ℕ) (k : Held m p) where
   pub reset-held : (x least : ℕ) → Held (resetTo m x least .mtud) p
-  unfolding resetTo
-  reset-held x least = by (good m && (sizeB x && sizeB least)) refl
-    where
-      by : (b : Bool) → (good m && (sizeB x && sizeB least)) ≡ b
-          → Held (cond {A = Done} b (done (opened x least (m .told) (m .peer) (m .config) (restarted (m .phase))) 0) (refused m 2) .mtud) p
-      by true e =
-          let s = snd (good m) (sizeB x && sizeB least) e in
-          rw (← (k .is))
-          (opened-held x least (m .told) (m .peer) (m .config) (restarted (m .phase)) (fst (sizeB x) (sizeB least) s) (snd (sizeB x) (sizeB least) s)
-          (omega (arith, k)) (k .top) (k .told) (λ v. phase-restarted (m .phase) (m .config) (m .current) (m .peer) v (m .peer) (k .phase)))
-      by false e = k
+  reset-held x least =
+      reset-by (λ (r : Done). Held (r .mtud) p) m x least
+      (λ s l.
+      rw (← (k .is))
+      (opened-held x least (m .told) (m .peer) (m .config) (restarted (m .phase)) s l (omega (arith, k)) (k .top) (k .told)
+      (λ v. phase-restarted (m .phase) (m .config) (m .current) (m .peer) v (m .peer) (k .phase))))
+      k
 
   -- another phase, another detector
   put-held : (x : ℕ) (q : Phase) (d : BlackHoleDetector) → 1200 ≤ x → x ≤ m .peer → Sound d → PhaseFine q (m .config) x (m .peer) → Held (put m x q d) p
   put-held x q d lo hi s f = record { low = lo; under = hi; top = k .top; is = k .is; told = k .told; hole = s; phase = f }
 
   rested-held : (x : ℕ) (d : BlackHoleDetector) (now span v : ℕ) → 1200 ≤ x → x ≤ m .peer → Sound d → goodConfig (m .config) ≡ true → Held (rested m x d now span v .mtud) p
-  unfolding rested PhaseFine
-  rested-held x d now span v lo hi s c = by (ltb (now + span) (2 ^ 64))
-    where
-      by : (b : Bool) → Held (cond {A = Done} b (done (put m x (Complete (now + span)) d) v) (refused m 2) .mtud) p
-      by true = put-held x (Complete (now + span)) d lo hi s c
-      by false = k
+  unfolding PhaseFine
+  rested-held x d now span v lo hi s c = rested-by (λ (r : Done). Held (r .mtud) p) m x d now span v (λ e. put-held x (Complete (now + span)) d lo hi s c) k
 
   turned-held : (t : Turn) (now : ℕ) → goodConfig (m .config) ≡ true → TurnFine t (m .current) (m .peer) → TurnSends t (m .config .upper) → Held (turned t m now .mtud) p
   unfolding turned TurnFine TurnSends PhaseFine
@@ -195,41 +170,26 @@ module _ (m : MtuDiscovery) (p : ℕ) (k : Held m p) where
   polled-at (Searching s) now n f h =
       turned-held (search.turn s (m .config .change) n) now (f .0) (turn-fine s (m .current) (m .peer) (f .1 .1) (m .config .change) n (change-some (m .config) (f .0)) h)
       (turn-sends s (m .current) (m .peer) (f .1 .1) (m .config .change) n (m .config .upper) (f .1 .0))
-  polled-at (Complete until) now n f h = by (ltb now until)
-    where
-      by : (b : Bool) → Held (cond {A = Done} b (done m 0) (turnIn m (begunIn m) now n) .mtud) p
-      by true = k
-      by false = begun-held now n f h
+  polled-at (Complete until) now n f h = complete-by (λ (r : Done). Held (r .mtud) p) m until now n (λ e. k) (λ e. begun-held now n f h)
 
   pub polled-held : (now n : ℕ) → Held (polled m now n .mtud) p
-  unfolding polled
-  polled-held now n = by (good m && ltb n (2 ^ 62)) refl
-    where
-      by : (b : Bool) → (good m && ltb n (2 ^ 62)) ≡ b → Held (cond {A = Done} b (byPhase (m .phase) m now n) (refused m 2) .mtud) p
-      by true e = polled-at (m .phase) now n (k .phase) (ltb-true _ _ (snd (good m) (ltb n (2 ^ 62)) e))
-      by false e = k
+  polled-held now n = polled-by (λ (r : Done). Held (r .mtud) p) m now n (λ h. polled-at (m .phase) now n (k .phase) h) k
 
   -- the peer's maximum is the new one exactly if the call is not refused
   pub peer-held : (x : ℕ) → Held (peerReceived m x .mtud) (cond (eqb (peerReceived m x .answer) 0) x p)
-  unfolding peerReceived
-  peer-held x = by (good m && sizeB x) (searchingB (m .phase)) refl refl
-    where
-      by : (b c : Bool) → (good m && sizeB x) ≡ b → searchingB (m .phase) ≡ c
-          → Held (cond {A = Done} b (cond {A = Done} c (refused m 6) (done (capped m x) 0)) (refused m 2) .mtud)
-          (cond (eqb (cond {A = Done} b (cond {A = Done} c (refused m 6) (done (capped m x) 0)) (refused m 2) .answer) 0) x p)
-      by true true e f = k
-      by true false e f =
-          let s = snd (good m) (sizeB x) e in
-          record {
-            low = omega (arith, size-low x s, k .low);
-            under = omega arith;
-            top = size-high x s;
-            is = refl;
-            told = refl;
-            hole = k .hole;
-            phase = phase-off (m .phase) (m .config) (m .current) (m .peer) (min (m .current) x) x f (k .phase);
-          }
-      by false c e f = k
+  peer-held x =
+      peer-by (λ (r : Done). Held (r .mtud) (cond (eqb (r .answer) 0) x p)) m x (λ f. k)
+      (λ s f.
+      record {
+        low = omega (arith, size-low x s, k .low);
+        under = omega arith;
+        top = size-high x s;
+        is = refl;
+        told = refl;
+        hole = k .hole;
+        phase = phase-off (m .phase) (m .config) (m .current) (m .peer) (min (m .current) x) x f (k .phase);
+      })
+      k
 
   delivered-held : (n x : ℕ) → n < 2 ^ 62 → x ≤ 65527 → Held (delivered m n x .mtud) p
   delivered-held n x hn hx = put-held (m .current) (m .phase) _ (k .low) (k .under) (delivered-sound (m .detector) (k .hole) n x hn hx) (k .phase)
@@ -239,88 +199,50 @@ module _ (m : MtuDiscovery) (p : ℕ) (k : Held m p) where
   acked-at Off n x f hn hx = delivered-held n x hn hx
   acked-at Initial n x f hn hx = delivered-held n x hn hx
   acked-at (Complete until) n x f hn hx = delivered-held n x hn hx
-  acked-at (Searching s) n x f hn hx = by (isProbe s n)
-    where
-      g : Fine s (m .current) (m .peer)
-      g = f .1 .1
-
-      by : (b : Bool) → Held (cond {A = Done} b (probeDelivered m s n x) (delivered m n x) .mtud) p
-      by true =
-          put-held (s .last) (Searching (search.acked s)) _ (omega (arith, g)) (omega (arith, g)) (probe-sound (m .detector) (k .hole) n x hn hx)
-          (f .0, (omega (arith, acked-upper s, f .1 .0), acked-fine s (m .current) (m .peer) g))
-      by false = delivered-held n x hn hx
+  acked-at (Searching s) n x f hn hx =
+      let g : Fine s (m .current) (m .peer) = f .1 .1 in
+      probe-by (λ (r : Done). Held (r .mtud) p) m s n x
+      (λ e.
+      put-held (s .last) (Searching (search.acked s)) _ (omega (arith, g)) (omega (arith, g)) (probe-sound (m .detector) (k .hole) n x hn hx)
+      (f .0, (omega (arith, acked-upper s, f .1 .0), acked-fine s (m .current) (m .peer) g)))
+      (delivered-held n x hn hx)
 
   pub acked-held : (n x : ℕ) → Held (acked m n x .mtud) p
-  unfolding acked
-  acked-held n x = by (good m && packetB n x) refl
-    where
-      by : (b : Bool) → (good m && packetB n x) ≡ b → Held (cond {A = Done} b (byAcked (m .phase) m n x) (refused m 2) .mtud) p
-      by true e = let s = snd (good m) (packetB n x) e in acked-at (m .phase) n x (k .phase) (number-low n x s) (length-low n x s)
-      by false e = k
+  acked-held n x = acked-by (λ (r : Done). Held (r .mtud) p) m n x (λ s. acked-at (m .phase) n x (k .phase) (number-low n x s) (length-low n x s)) k
 
   lost-at : (q : Phase) → PhaseFine q (m .config) (m .current) (m .peer) → Held (byLost q m .mtud) p
   unfolding byLost PhaseFine
   lost-at Off f = k
   lost-at Initial f = k
   lost-at (Complete until) f = k
-  lost-at (Searching s) f = by (s .flying) refl
-    where
-      by : (b : Bool) → s .flying ≡ b → Held (cond {A = Done} b (done (at m (Searching (search.missed s))) 0) (refused m 6) .mtud) p
-      by true e = put-held (m .current) (Searching (search.missed s)) (m .detector) (k .low) (k .under) (k .hole) (f .0, (omega (arith, missed-upper s, f .1 .0), missed-fine s (m .current) (m .peer) (f .1 .1) e))
-      by false e = k
+  lost-at (Searching s) f =
+      flying-by (λ (r : Done). Held (r .mtud) p) m s
+      (λ e.
+      put-held (m .current) (Searching (search.missed s)) (m .detector) (k .low) (k .under) (k .hole)
+      (f .0, (omega (arith, missed-upper s, f .1 .0), missed-fine s (m .current) (m .peer) (f .1 .1) e)))
+      k
 
   pub probe-lost-held : Held (probeLost m .mtud) p
-  unfolding probeLost
-  probe-lost-held = by (good m)
-    where
-      by : (b : Bool) → Held (cond {A = Done} b (byLost (m .phase) m) (refused m 2) .mtud) p
-      by true = lost-at (m .phase) (k .phase)
-      by false = k
+  probe-lost-held = lost-by (λ (r : Done). Held (r .mtud) p) m (lost-at (m .phase) (k .phase)) k
 
   pub packet-lost-held : (n x : ℕ) → Held (packetLost m n x .mtud) p
-  unfolding packetLost
-  packet-lost-held n x = by (good m && packetB n x) (late (m .detector) n) refl
-    where
-      by : (b c : Bool) → (good m && packetB n x) ≡ b
-          → Held (cond {A = Done} b (cond {A = Done} c (refused m 6) (done (watching m (hole.lost (m .detector) n x)) 0)) (refused m 2) .mtud) p
-      by true true e = k
-      by true false e =
-          let s = snd (good m) (packetB n x) e in
-          put-held (m .current) (m .phase) _ (k .low) (k .under) (lost-sound (m .detector) n x (k .hole) (number-low n x s) (length-low n x s)) (k .phase)
-      by false c e = k
+  packet-lost-held n x =
+      packet-by (λ (r : Done). Held (r .mtud) p) m n x k
+      (λ s. put-held (m .current) (m .phase) _ (k .low) (k .under) (lost-sound (m .detector) n x (k .hole) (number-low n x s) (length-low n x s)) (k .phase)) k
 
   fallen-held : (d : BlackHoleDetector) (now : ℕ) → Sound d → Held (fallen m d now .mtud) p
-  unfolding fallen PhaseFine
-  fallen-held d now s = by (offB (m .phase)) refl
-    where
-      lo : 1200 ≤ min (d .minimum) (m .peer)
-      lo = omega (arith, s, k)
-
-      hi : min (d .minimum) (m .peer) ≤ m .peer
-      hi = omega arith
-
-      by : (b : Bool) → offB (m .phase) ≡ b
-          → Held
-          (cond {A = Done} b (done (put m (min (d .minimum) (m .peer)) Off d) 1) (rested m (min (d .minimum) (m .peer)) d now (m .config .cooldown) 1) .mtud)
-          p
-      by true e = put-held (min (d .minimum) (m .peer)) Off d lo hi s tt
-      by false e =
-          rested-held (min (d .minimum) (m .peer)) d now (m .config .cooldown) 1 lo hi s (phase-config (m .phase) (m .config) (m .current) (m .peer) e (k .phase))
+  unfolding PhaseFine
+  fallen-held d now s =
+      let lo : 1200 ≤ min (d .minimum) (m .peer) = omega (arith, s, k) in
+      let hi : min (d .minimum) (m .peer) ≤ m .peer = omega arith in
+      fallen-by (λ (r : Done). Held (r .mtud) p) m d now (put-held (min (d .minimum) (m .peer)) Off d lo hi s tt)
+      (λ e.
+      put-held (min (d .minimum) (m .peer)) (Complete (now + m .config .cooldown)) d lo hi s
+      (phase-config (m .phase) (m .config) (m .current) (m .peer) e (k .phase)))
+      k
 
   pub hole-held : (now : ℕ) → Held (holeAsked m now .mtud) p
-  unfolding holeAsked byHole
-  hole-held now = by (good m) (hole.detected (m .detector) .found)
-    where
-      s : Sound (hole.detected (m .detector) .detector)
-      s = detected-sound (m .detector) (k .hole)
-
-      by : (b c : Bool)
-          → Held
-          (cond {A = Done} b
-          (cond {A = Done} c (fallen m (hole.detected (m .detector) .detector) now) (done (watching m (hole.detected (m .detector) .detector)) 0))
-          (refused m 2)
-          .mtud)
-          p
-      by true true = fallen-held _ now s
-      by true false = put-held (m .current) (m .phase) _ (k .low) (k .under) s (k .phase)
-      by false c = k
+  hole-held now =
+      let s = detected-sound (m .detector) (k .hole) in
+      hole-by (λ (r : Done). Held (r .mtud) p) m now (fallen-held (hole.detected (m .detector) .detector) now s)
+      (put-held (m .current) (m .phase) (hole.detected (m .detector) .detector) (k .low) (k .under) s (k .phase)) k

@@ -1,3 +1,4 @@
+pub mod Cases
 pub mod Turns
 pub mod Kept
 pub mod Calls

@@ -16,7 +16,7 @@ use Rattle.mtu_search.specs.Measure.{shortfall}
 use Rattle.mtu_search.specs.Count.{sizes}
 use Rattle.mtu_search.proofs.Kept.{first-fine}
 use Rattle.mtu_search.proofs.Counts.{sizes-none}
-use Rattle.mtu_search.proofs.History.{Any, Fit, newest, sure, steps-sizes}
+use Rattle.mtu_search.proofs.History.{Any, Passes, Stops, Fit, newest, sure, steps-sizes}
 use Rattle.mtu_search.proofs.Distance.{steps-near, first-near}
 use Rattle.mtu_phase.specs.declared.Phase.{Phase}
 use Rattle.mtu_phase.specs.declared.Phase.the-variants.{Off, Initial, Searching, Complete}
@@ -31,7 +31,7 @@ use Rattle.mtud_history.proofs.History.{Run, held, size-is}
 use Rattle.mtud_history.proofs.Searches.{Going, fine, turn-is, turn-at, begins-going, sends-going, ack-going, miss-going}
 use Rattle.mtud_history.proofs.Sizes.{sizesOf}
 use Rattle.mtud_history.proofs.Flights.{Sent, polled-sent, Idle, acked-idle, lost-idle}
-use Rattle.mtud_history.proofs.Ends.{Passes, Stops, Rests, rests-over, poll-is, turn-moves, turned-moves, moves-by}
+use Rattle.mtud_history.proofs.Ends.{Rests, rests-over, poll-is, turn-moves, turned-moves, moves-by}
 
 -- ---- what is said
 -- a search may begin: it is on, none runs, and no rest does

@@ -1,24 +1,22 @@
 -- Every probe is larger than the MTU known so far, and at most the peer's maximum and the configured upper bound, after any calls from a fresh start.
 -- By the phases: each turn that sends a probe leaves a good search with that probe in flight. Assumes nothing.
-use mathlib.Core.Path.{_≡_, refl, ap, sym, _∙_}
-use mathlib.Core.Bool.{Bool, true, false, cond, _&&_}
-use Prim.Native.Nat.{ℕ, _+_, _^_, _≤_, _<_}
+use mathlib.Core.Path.{_≡_, refl, ap, _∙_}
+use mathlib.Core.Bool.{true}
+use Prim.Native.Nat.{ℕ, _^_, _≤_, _<_}
 use native.Mathlib.Omega.{arith}
-use lib.Dec.{ltb}
-use borrow.Author.Tests.{ltb-true}
 use Rattle.mtu_search.specs.declared.SearchState.{SearchState}
 use Rattle.mtu_search.specs.declared.Turn.{Turn}
 use Rattle.mtu_search.specs.declared.Turn.the-variants.{Waiting, Probing, Over}
 use Rattle.mtu_search.specs.Search as search
-use Rattle.answers.proofs.Tests.{snd}
 use Rattle.mtu_search.proofs.Kept.{Fine, TurnFine, turn-fine, first-fine}
 use Rattle.mtu_phase.specs.declared.Phase.{Phase}
 use Rattle.mtu_phase.specs.declared.Phase.the-variants.{Off, Initial, Searching, Complete}
 use Rattle.mtu_phase.specs.Phase.{goodConfig}
 use Rattle.mtud.specs.declared.MtuDiscovery.{MtuDiscovery}
 use Rattle.mtud.specs.declared.Done.{Done}
-use Rattle.mtud.specs.Discovery.{good, refused, done, begunIn, turned, turnIn, byPhase, polled}
+use Rattle.mtud.specs.Discovery.{begunIn, turned, turnIn, byPhase, polled}
 use Rattle.mtud_history.proofs.Turns.{TurnSends, turn-sends, first-sends}
+use Rattle.mtud_history.proofs.Cases.{polled-by, complete-by}
 use Rattle.mtud_history.proofs.Calls.{Poll}
 use Rattle.mtud_history.proofs.Kept.{PhaseFine, Held, change-some}
 use Rattle.mtud_history.proofs.History.{Run, held}
@@ -53,20 +51,11 @@ module _ (m : MtuDiscovery) (p now : ℕ) (k : Held m p) where
   probe-at (Searching s) n f h d =
       turned-probe (search.turn s (m .config .change) n) (turn-fine s (m .current) (m .peer) (f .1 .1) (m .config .change) n (change-some (m .config) (f .0)) h)
       (turn-sends s (m .current) (m .peer) (f .1 .1) (m .config .change) n (m .config .upper) (f .1 .0)) d
-  probe-at (Complete until) n f h d = by (ltb now until) d
-    where
-      by : (b : Bool) → (cond {A = Done} b (done m 0) (turnIn m (begunIn m) now n) .value ≡ 0 → ⊥) → Probe m (cond {A = Done} b (done m 0) (turnIn m (begunIn m) now n) .value)
-      by true d = absurd (d refl)
-      by false d = first-probe n f h d
+  probe-at (Complete until) n f h d =
+      complete-by (λ (r : Done). (r .value ≡ 0 → ⊥) → Probe m (r .value)) m until now n (λ e z. absurd (z refl)) (λ e. first-probe n f h) d
 
   polled-probe : (n : ℕ) → (polled m now n .value ≡ 0 → ⊥) → Probe m (polled m now n .value)
-  unfolding polled
-  polled-probe n = by (good m && ltb n (2 ^ 62)) refl
-    where
-      by : (b : Bool) → (good m && ltb n (2 ^ 62)) ≡ b → (cond {A = Done} b (byPhase (m .phase) m now n) (refused m 2) .value ≡ 0 → ⊥)
-          → Probe m (cond {A = Done} b (byPhase (m .phase) m now n) (refused m 2) .value)
-      by true e d = probe-at (m .phase) n (k .phase) (ltb-true _ _ (snd (good m) (ltb n (2 ^ 62)) e)) d
-      by false e d = absurd (d refl)
+  polled-probe n = polled-by (λ (r : Done). (r .value ≡ 0 → ⊥) → Probe m (r .value)) m now n (probe-at (m .phase) n (k .phase)) (λ d. absurd (d refl))
 
 -- the theorem: a probe that poll_transmit asks for is above the MTU, and at most the peer's maximum and the configured upper bound
 pub probe-above : {p : ℕ} {m : MtuDiscovery} (now n : ℕ) (r : Done) → Run p m → Poll m now n r → (r .value ≡ 0 → ⊥)

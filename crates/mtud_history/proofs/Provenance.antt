@@ -1,13 +1,13 @@
 -- Where the MTU comes from: after any calls it is the start's or a reset's size capped by the peer's maximum, the minimum after a black hole, a peer's maximum,
 -- or the size of a probe that was sent and then acknowledged. By induction on the calls, each made of what its own contract allows. Assumes nothing.
 use mathlib.Core.Path.{_≡_, refl, ap, sym, _∙_, subst}
-use mathlib.Core.Bool.{Bool, true, false, cond, _&&_}
+use mathlib.Core.Bool.{Bool, true, false, cond}
 use mathlib.Core.List.{List, [], _∷_}
 use mathlib.Core.Logic.{_⊎_, inl, inr}
 use Prim.Native.Nat.{ℕ, zero, suc, _+_, _^_, _≤_, _<_, min, max}
 use native.Mathlib.Omega.{arith}
 use lib.Dec.{eqb, ltb, leb}
-use borrow.Author.Tests.{eqb-true, eq-eqb, ne-eqb, ltb-true}
+use borrow.Author.Tests.{eqb-true, eq-eqb, ne-eqb}
 use Rattle.black_hole.specs.declared.BlackHoleDetector.{BlackHoleDetector}
 use Rattle.black_hole.specs.declared.Detected.{Detected}
 use Rattle.black_hole.specs.BlackHole as hole
@@ -20,15 +20,16 @@ use Rattle.answers.proofs.Tests.{never, fst, snd, split}
 use Rattle.mtu_phase.specs.declared.Phase.{Phase}
 use Rattle.mtu_phase.specs.declared.Phase.the-variants.{Off, Initial, Searching, Complete}
 use Rattle.mtu_phase.specs.declared.MtuDiscoveryConfig.{MtuDiscoveryConfig}
-use Rattle.mtu_phase.specs.Phase.{sizeB, packetB, goodConfig, noConfig, restarted, searchingB, offB}
+use Rattle.mtu_phase.specs.Phase.{goodConfig, noConfig, restarted, searchingB}
 use Rattle.mtud.specs.declared.PeerMax.{PeerMax}
 use Rattle.mtud.specs.declared.PeerMax.the-variants.{Unknown, Known}
 use Rattle.mtud.specs.declared.MtuDiscovery.{MtuDiscovery}
 use Rattle.mtud.specs.declared.Done.{Done}
 use Rattle.mtud.specs.declared.Size.{Size}
-use Rattle.mtud.specs.Discovery.{good, put, at, watching, refused, done, blank, opened, startedWith, started, switchedOff, resetTo, rested, begunIn, turned, turnIn, byPhase, polled, capped, peerReceived, isProbe, delivered, probeDelivered, byAcked, acked, byLost, probeLost, late, packetLost, fallen, byHole, holeAsked}
+use Rattle.mtud.specs.Discovery.{put, at, watching, opened, startedWith, started, switchedOff, resetTo, begunIn, turned, turnIn, byPhase, polled, peerReceived, isProbe, delivered, probeDelivered, byAcked, acked, byLost, probeLost, packetLost, fallen, holeAsked}
 use Rattle.mtud_history.specs.Told as told
 use Rattle.mtud_history.specs.Told.{Call, Said, peerOf, Facts, after, known, Source, before}
+use Rattle.mtud_history.proofs.Cases.{started-by, off-by, reset-by, polled-by, complete-by, rested-by, peer-by, acked-by, probe-by, lost-by, flying-by, packet-by, fallen-by, hole-by}
 use Rattle.mtud_history.proofs.Calls.{New, Disabled, Reset, Poll, Peer, Acked, ProbeLost, Lost, Hole, CurrentMtu}
 use Rattle.mtud_history.proofs.Searches.{not-restarted}
 use Rattle.mtud_history.proofs.Kept.{PhaseFine, Held, held-good, change-some}
@@ -170,43 +171,34 @@ abbrev Quiet : MtuDiscovery → Done → Type 0
 Quiet m r = r .value ≡ 0 → (s : SearchState) → r .mtud .phase ≡ Searching s → m .phase ≡ Searching s
 
 module _ (m : MtuDiscovery) (now : ℕ) where
-  rested-alike : (b : Bool) → Alike m (cond {A = Done} b (done (put m (m .current) (Complete (now + m .config .interval)) (m .detector)) 0) (refused m 2) .mtud)
-      × Quiet m (cond {A = Done} b (done (put m (m .current) (Complete (now + m .config .interval)) (m .detector)) 0) (refused m 2))
-  rested-alike true = ((refl, (refl, refl)), λ z s h. not-complete (now + m .config .interval) s h)
-  rested-alike false = ((refl, (refl, refl)), λ z s h. h)
+  -- what a poll may come to
+  abbrev Calm : Done → Type 0
+  Calm r = Alike m (r .mtud) × Quiet m r
 
-  turned-alike : (u : Turn) → TurnFine u (m .current) (m .peer) → Alike m (turned u m now .mtud) × Quiet m (turned u m now)
-  unfolding turned rested TurnFine
-  turned-alike Waiting f = ((refl, (refl, refl)), λ z s h. h)
-  turned-alike (Probing t) f = ((refl, (refl, refl)), λ z s h. absurd (omega (arith, f)))
-  turned-alike Over f = rested-alike (ltb (now + m .config .interval) (2 ^ 64))
+  turned-calm : (u : Turn) → TurnFine u (m .current) (m .peer) → Calm (turned u m now)
+  unfolding turned TurnFine
+  turned-calm Waiting f = ((refl, (refl, refl)), λ z s h. h)
+  turned-calm (Probing t) f = ((refl, (refl, refl)), λ z s h. absurd (omega (arith, f)))
+  turned-calm Over f =
+      rested-by Calm m (m .current) (m .detector) now (m .config .interval) 0 (λ e. ((refl, (refl, refl)), λ z s h. not-complete (now + m .config .interval) s h))
+      ((refl, (refl, refl)), λ z s h. h)
 
   module _ (p n : ℕ) (k : Held m p) (hn : n < 2 ^ 62) where
-    first-alike : goodConfig (m .config) ≡ true → Alike m (turnIn m (begunIn m) now n .mtud) × Quiet m (turnIn m (begunIn m) now n)
-    first-alike c =
-        turned-alike (search.turn (begunIn m) (m .config .change) n)
+    first-calm : goodConfig (m .config) ≡ true → Calm (turnIn m (begunIn m) now n)
+    first-calm c =
+        turned-calm (search.turn (begunIn m) (m .config .change) n)
         (first-fine (m .current) (m .peer) (m .config .upper) (m .config .change) n (k .low) (k .under) (change-some (m .config) c) hn)
 
-    phase-alike : (q : Phase) → PhaseFine q (m .config) (m .current) (m .peer) → Alike m (byPhase q m now n .mtud) × Quiet m (byPhase q m now n)
+    phase-calm : (q : Phase) → PhaseFine q (m .config) (m .current) (m .peer) → Calm (byPhase q m now n)
     unfolding byPhase PhaseFine
-    phase-alike Off f = ((refl, (refl, refl)), λ z s h. h)
-    phase-alike Initial f = first-alike f
-    phase-alike (Searching s) f =
-        turned-alike (search.turn s (m .config .change) n) (turn-fine s (m .current) (m .peer) (f .1 .1) (m .config .change) n (change-some (m .config) (f .0)) hn)
-    phase-alike (Complete until) f = by (ltb now until)
-      where
-        by : (b : Bool) → Alike m (cond {A = Done} b (done m 0) (turnIn m (begunIn m) now n) .mtud) × Quiet m (cond {A = Done} b (done m 0) (turnIn m (begunIn m) now n))
-        by true = ((refl, (refl, refl)), λ z s h. h)
-        by false = first-alike f
+    phase-calm Off f = ((refl, (refl, refl)), λ z s h. h)
+    phase-calm Initial f = first-calm f
+    phase-calm (Searching s) f =
+        turned-calm (search.turn s (m .config .change) n) (turn-fine s (m .current) (m .peer) (f .1 .1) (m .config .change) n (change-some (m .config) (f .0)) hn)
+    phase-calm (Complete until) f = complete-by Calm m until now n (λ e. ((refl, (refl, refl)), λ z s h. h)) (λ e. first-calm f)
 
-polled-alike : (m : MtuDiscovery) (now p n : ℕ) → Held m p → Alike m (polled m now n .mtud) × Quiet m (polled m now n)
-unfolding polled
-polled-alike m now p n k = by (good m && ltb n (2 ^ 62)) refl
-  where
-    by : (b : Bool) → (good m && ltb n (2 ^ 62)) ≡ b
-        → Alike m (cond {A = Done} b (byPhase (m .phase) m now n) (refused m 2) .mtud) × Quiet m (cond {A = Done} b (byPhase (m .phase) m now n) (refused m 2))
-    by true e = phase-alike m now p n k (ltb-true n (2 ^ 62) (snd (good m) (ltb n (2 ^ 62)) e)) (m .phase) (k .phase)
-    by false e = ((refl, (refl, refl)), λ z s h. h)
+  polled-calm : (p n : ℕ) → Held m p → Calm (polled m now n)
+  polled-calm p n k = polled-by Calm m now n (λ hn. phase-calm p n k hn (m .phase) (k .phase)) ((refl, (refl, refl)), λ z s h. h)
 
 -- ---- the calls
 module _ (es : List Said) (m : MtuDiscovery) (k : Books es m) where
@@ -218,7 +210,7 @@ module _ (es : List Said) (m : MtuDiscovery) (k : Books es m) where
       r = polled m now n
 
       a : Alike m (r .mtud) × Quiet m r
-      a = polled-alike m now p n h
+      a = polled-calm m now p n h
 
       by : (v : ℕ) → r .value ≡ v → Books (say (told.poll now n) r ∷ es) (r .mtud)
       by zero e =
@@ -245,40 +237,37 @@ module _ (es : List Said) (m : MtuDiscovery) (k : Books es m) where
   refused-books c a i = keeps es m m (record { call = c; answer = a; value = 0 }) k refl refl refl (λ s h g. h) i
 
   reset-books : (x least : ℕ) → Books (say (told.reset x least) (resetTo m x least) ∷ es) (resetTo m x least .mtud)
-  unfolding resetTo opened known after
-  reset-books x least = by (good m && (sizeB x && sizeB least))
-    where
-      by : (b : Bool)
-          → Books (say (told.reset x least) (cond {A = Done} b (done (opened x least (m .told) (m .peer) (m .config) (restarted (m .phase))) 0) (refused m 2)) ∷ es)
-          (cond {A = Done} b (done (opened x least (m .told) (m .peer) (m .config) (restarted (m .phase))) 0) (refused m 2) .mtud)
-      by true =
-          record {
-            source = subst (λ (y : ℕ). Source (record { call = told.reset x least; answer = 0; value = 0 } ∷ es) (min x y)) (sym (k .peer)) (told.again x least 0 es);
-            mtu = ap (λ (y : ℕ). min x y) (k .peer);
-            peer = k .peer;
-            least = fresh-least least;
-            flight = λ s h g. absurd (restarted-none (m .phase) s h);
-          }
-      by false = refused-books (told.reset x least) 2 refl
+  unfolding opened known after
+  reset-books x least =
+      reset-by (λ (r : Done). Books (say (told.reset x least) r ∷ es) (r .mtud)) m x least
+      (λ s l.
+      record {
+        source = subst (λ (y : ℕ). Source (record { call = told.reset x least; answer = 0; value = 0 } ∷ es) (min x y)) (sym (k .peer)) (told.again x least 0 es);
+        mtu = ap (λ (y : ℕ). min x y) (k .peer);
+        peer = k .peer;
+        least = fresh-least least;
+        flight = λ s h g. absurd (restarted-none (m .phase) s h);
+      })
+      (refused-books (told.reset x least) 2 refl)
+
+  -- the smaller of the MTU and the peer's maximum
+  peer-source : (x : ℕ) → (m .current < x) ⊎ (x ≤ m .current) → Source (record { call = told.peer x; answer = 0; value = 0 } ∷ es) (min (m .current) x)
+  peer-source x (inl h) = subst (λ (y : ℕ). Source (record { call = told.peer x; answer = 0; value = 0 } ∷ es) y) (omega arith) (before _ es (k .source))
+  peer-source x (inr h) = subst (λ (y : ℕ). Source (record { call = told.peer x; answer = 0; value = 0 } ∷ es) y) (omega arith) (told.cap x 0 es)
 
   peer-books : (x : ℕ) → Books (say (told.peer x) (peerReceived m x) ∷ es) (peerReceived m x .mtud)
-  unfolding peerReceived known after
-  peer-books x = by (good m && sizeB x) (searchingB (m .phase)) refl
-    where
-      e : Said
-      e = record { call = told.peer x; answer = 0; value = 0 }
-
-      -- the smaller of the MTU and the cap
-      lower : (m .current < x) ⊎ (x ≤ m .current) → Source (e ∷ es) (min (m .current) x)
-      lower (inl h) = subst (λ (y : ℕ). Source (e ∷ es) y) (omega arith) (before e es (k .source))
-      lower (inr h) = subst (λ (y : ℕ). Source (e ∷ es) y) (omega arith) (told.cap x 0 es)
-
-      by : (b c : Bool) → searchingB (m .phase) ≡ c
-          → Books (say (told.peer x) (cond {A = Done} b (cond {A = Done} c (refused m 6) (done (capped m x) 0)) (refused m 2)) ∷ es)
-          (cond {A = Done} b (cond {A = Done} c (refused m 6) (done (capped m x) 0)) (refused m 2) .mtud)
-      by true true f = refused-books (told.peer x) 6 refl
-      by true false f = record { source = lower (split (m .current) x); mtu = ap (λ (y : ℕ). min y x) (k .mtu); peer = refl; least = k .least; flight = λ s h g. not-searching (m .phase) s f h }
-      by false c f = refused-books (told.peer x) 2 refl
+  unfolding known after
+  peer-books x =
+      peer-by (λ (r : Done). Books (say (told.peer x) r ∷ es) (r .mtud)) m x (λ f. refused-books (told.peer x) 6 refl)
+      (λ s f.
+      record {
+        source = peer-source x (split (m .current) x);
+        mtu = ap (λ (y : ℕ). min y x) (k .mtu);
+        peer = refl;
+        least = k .least;
+        flight = λ s h g. not-searching (m .phase) s f h;
+      })
+      (refused-books (told.peer x) 2 refl)
 
   -- a packet that is not the probe
   delivered-books : (n x : ℕ) → Books (say (told.acked n x) (delivered m n x) ∷ es) (delivered m n x .mtud)
@@ -306,55 +295,37 @@ module _ (es : List Said) (m : MtuDiscovery) (k : Books es m) where
   acked-at n x Off e = delivered-books n x
   acked-at n x Initial e = delivered-books n x
   acked-at n x (Complete until) e = delivered-books n x
-  acked-at n x (Searching s) e = by (isProbe s n) refl
-    where
-      by : (b : Bool) → isProbe s n ≡ b
-          → Books (say (told.acked n x) (cond {A = Done} b (probeDelivered m s n x) (delivered m n x)) ∷ es) (cond {A = Done} b (probeDelivered m s n x) (delivered m n x) .mtud)
-      by true f = probe-books n x s e f
-      by false f = delivered-books n x
+  acked-at n x (Searching s) e =
+      probe-by (λ (r : Done). Books (say (told.acked n x) r ∷ es) (r .mtud)) m s n x (λ f. probe-books n x s e f) (delivered-books n x)
 
   ack-books : (n x : ℕ) → Books (say (told.acked n x) (acked m n x) ∷ es) (acked m n x .mtud)
-  unfolding acked known after
-  ack-books n x = by (good m && packetB n x)
-    where
-      by : (b : Bool) → Books (say (told.acked n x) (cond {A = Done} b (byAcked (m .phase) m n x) (refused m 2)) ∷ es) (cond {A = Done} b (byAcked (m .phase) m n x) (refused m 2) .mtud)
-      by true = acked-at n x (m .phase) refl
-      by false = refused-books (told.acked n x) 2 refl
+  unfolding known after
+  ack-books n x =
+      acked-by (λ (r : Done). Books (say (told.acked n x) r ∷ es) (r .mtud)) m n x (λ e. acked-at n x (m .phase) refl) (refused-books (told.acked n x) 2 refl)
 
   lost-at : (q : Phase) → m .phase ≡ q → Books (say told.probeLost (byLost q m) ∷ es) (byLost q m .mtud)
   unfolding byLost known after
   lost-at Off e = refused-books told.probeLost 0 refl
   lost-at Initial e = refused-books told.probeLost 0 refl
   lost-at (Complete until) e = refused-books told.probeLost 0 refl
-  lost-at (Searching s) e = by (s .flying)
-    where
-      by : (b : Bool)
-          → Books (say told.probeLost (cond {A = Done} b (done (at m (Searching (search.missed s))) 0) (refused m 6)) ∷ es)
-          (cond {A = Done} b (done (at m (Searching (search.missed s))) 0) (refused m 6) .mtud)
-      by true =
-          keeps es m (at m (Searching (search.missed s))) (record { call = told.probeLost; answer = 0; value = 0 }) k refl refl refl
-          (λ t h g. grounded (Searching (search.missed s)) t (search.missed s) refl (missed-grounded s) h g) refl
-      by false = refused-books told.probeLost 6 refl
+  lost-at (Searching s) e =
+      flying-by (λ (r : Done). Books (say told.probeLost r ∷ es) (r .mtud)) m s
+      (λ f.
+      keeps es m (at m (Searching (search.missed s))) (record { call = told.probeLost; answer = 0; value = 0 }) k refl refl refl
+      (λ t h g. grounded (Searching (search.missed s)) t (search.missed s) refl (missed-grounded s) h g) refl)
+      (refused-books told.probeLost 6 refl)
 
   miss-books : Books (say told.probeLost (probeLost m) ∷ es) (probeLost m .mtud)
-  unfolding probeLost known after
-  miss-books = by (good m)
-    where
-      by : (b : Bool) → Books (say told.probeLost (cond {A = Done} b (byLost (m .phase) m) (refused m 2)) ∷ es) (cond {A = Done} b (byLost (m .phase) m) (refused m 2) .mtud)
-      by true = lost-at (m .phase) refl
-      by false = refused-books told.probeLost 2 refl
+  unfolding known after
+  miss-books = lost-by (λ (r : Done). Books (say told.probeLost r ∷ es) (r .mtud)) m (lost-at (m .phase) refl) (refused-books told.probeLost 2 refl)
 
   lose-books : (n x : ℕ) → Books (say (told.lost n x) (packetLost m n x) ∷ es) (packetLost m n x .mtud)
-  unfolding packetLost known after
-  lose-books n x = by (good m && packetB n x) (late (m .detector) n)
-    where
-      by : (b c : Bool)
-          → Books (say (told.lost n x) (cond {A = Done} b (cond {A = Done} c (refused m 6) (done (watching m (hole.lost (m .detector) n x)) 0)) (refused m 2)) ∷ es)
-          (cond {A = Done} b (cond {A = Done} c (refused m 6) (done (watching m (hole.lost (m .detector) n x)) 0)) (refused m 2) .mtud)
-      by true true = refused-books (told.lost n x) 6 refl
-      by true false =
-          keeps es m (watching m (hole.lost (m .detector) n x)) (record { call = told.lost n x; answer = 0; value = 0 }) k refl refl (lost-least (m .detector) n x) (λ s h g. h) refl
-      by false c = refused-books (told.lost n x) 2 refl
+  unfolding known after
+  lose-books n x =
+      packet-by (λ (r : Done). Books (say (told.lost n x) r ∷ es) (r .mtud)) m n x (refused-books (told.lost n x) 6 refl)
+      (λ e.
+      keeps es m (watching m (hole.lost (m .detector) n x)) (record { call = told.lost n x; answer = 0; value = 0 }) k refl refl (lost-least (m .detector) n x) (λ s h g. h) refl)
+      (refused-books (told.lost n x) 2 refl)
 
   -- the minimum after a black hole
   fell-books : (now : ℕ) (q : Phase) (d : BlackHoleDetector) → d .minimum ≡ m .detector .minimum → ((s : SearchState) → q ≡ Searching s → ⊥)
@@ -371,35 +342,20 @@ module _ (es : List Said) (m : MtuDiscovery) (k : Books es m) where
       }
 
   fallen-books : (now : ℕ) (d : BlackHoleDetector) → d .minimum ≡ m .detector .minimum → Books (say (told.hole now) (fallen m d now) ∷ es) (fallen m d now .mtud)
-  unfolding fallen rested known after
-  fallen-books now d e = by (offB (m .phase)) (ltb (now + m .config .cooldown) (2 ^ 64))
-    where
-      x : ℕ
-      x = min (d .minimum) (m .peer)
-
-      by : (b c : Bool)
-          → Books (say (told.hole now) (cond {A = Done} b (done (put m x Off d) 1) (cond {A = Done} c (done (put m x (Complete (now + m .config .cooldown)) d) 1) (refused m 2))) ∷ es)
-          (cond {A = Done} b (done (put m x Off d) 1) (cond {A = Done} c (done (put m x (Complete (now + m .config .cooldown)) d) 1) (refused m 2)) .mtud)
-      by true c = fell-books now Off d e (λ s h. not-off s h)
-      by false true = fell-books now (Complete (now + m .config .cooldown)) d e (λ s h. not-complete (now + m .config .cooldown) s h)
-      by false false = refused-books (told.hole now) 2 refl
+  unfolding known after
+  fallen-books now d e =
+      fallen-by (λ (r : Done). Books (say (told.hole now) r ∷ es) (r .mtud)) m d now (fell-books now Off d e (λ s h. not-off s h))
+      (λ f. fell-books now (Complete (now + m .config .cooldown)) d e (λ s h. not-complete (now + m .config .cooldown) s h)) (refused-books (told.hole now) 2 refl)
 
   ask-books : (now : ℕ) → Books (say (told.hole now) (holeAsked m now) ∷ es) (holeAsked m now .mtud)
-  unfolding holeAsked byHole known after
-  ask-books now = by (good m) (hole.detected (m .detector) .found)
-    where
-      d : BlackHoleDetector
-      d = hole.detected (m .detector) .detector
+  unfolding known after
+  ask-books now =
+      let d = hole.detected (m .detector) .detector in
+      let e = detected-least (m .detector) in
+      hole-by (λ (r : Done). Books (say (told.hole now) r ∷ es) (r .mtud)) m now (fallen-books now d e)
+      (keeps es m (watching m d) (record { call = told.hole now; answer = 0; value = 0 }) k refl refl e (λ s h g. h) refl) (refused-books (told.hole now) 2 refl)
 
-      by : (b c : Bool)
-          → Books (say (told.hole now) (cond {A = Done} b (cond {A = Done} c (fallen m d now) (done (watching m d) 0)) (refused m 2)) ∷ es)
-          (cond {A = Done} b (cond {A = Done} c (fallen m d now) (done (watching m d) 0)) (refused m 2) .mtud)
-      by true true = fallen-books now d (detected-least (m .detector))
-      by true false =
-          keeps es m (watching m d) (record { call = told.hole now; answer = 0; value = 0 }) k refl refl (detected-least (m .detector)) (λ s h g. h) refl
-      by false c = refused-books (told.hole now) 2 refl
-
--- ---- the start
+-- ---- fresh records
 opened-books : (e : Said) (es : List Said) (x least : ℕ) (t : Bool) (p : ℕ) (c : MtuDiscoveryConfig) (q : Phase) → Source (e ∷ es) (min x p) → min x p ≡ known (e ∷ es) .mtu → p ≡ known (e ∷ es) .peer
     → least ≡ known (e ∷ es) .least → ((s : SearchState) → q ≡ Searching s → ⊥) → Books (e ∷ es) (opened x least t p c q)
 unfolding opened
@@ -407,16 +363,13 @@ opened-books e es x least t p c q o em ep el f = record { source = o; mtu = em; 
 
 started-books : (initial least : ℕ) (q : PeerMax) (t : Bool) (c : MtuDiscoveryConfig) → startedWith initial least t (peerOf q) c .answer ≡ 0
     → Books (say (told.new initial least q c) (startedWith initial least t (peerOf q) c) ∷ []) (startedWith initial least t (peerOf q) c .mtud)
-unfolding startedWith known after
-started-books initial least q t c = by ((sizeB initial && sizeB least) && (leb least initial && (sizeB (peerOf q) && goodConfig c)))
-  where
-    by : (b : Bool) → cond {A = Done} b (done (opened initial least t (peerOf q) c Initial) 0) (refused blank 2) .answer ≡ 0
-        → Books (say (told.new initial least q c) (cond {A = Done} b (done (opened initial least t (peerOf q) c Initial) 0) (refused blank 2)) ∷ [])
-        (cond {A = Done} b (done (opened initial least t (peerOf q) c Initial) 0) (refused blank 2) .mtud)
-    by true z =
-        opened-books (record { call = told.new initial least q c; answer = 0; value = 0 }) [] initial least t (peerOf q) c Initial (told.begun initial least q c 0 []) refl refl refl
-        (λ s h. not-initial s h)
-    by false z = absurd (omega arith)
+unfolding known after
+started-books initial least q t c =
+    started-by (λ (r : Done). r .answer ≡ 0 → Books (say (told.new initial least q c) r ∷ []) (r .mtud)) initial least t (peerOf q) c
+    (λ i l s g z.
+    opened-books (record { call = told.new initial least q c; answer = 0; value = 0 }) [] initial least t (peerOf q) c Initial (told.begun initial least q c 0 []) refl refl refl
+    (λ s h. not-initial s h))
+    (λ z. absurd (omega arith))
 
 new-books : (initial least : ℕ) (q : PeerMax) (c : MtuDiscoveryConfig) → started initial least q c .answer ≡ 0
     → Books (say (told.new initial least q c) (started initial least q c) ∷ []) (started initial least q c .mtud)
@@ -425,15 +378,12 @@ new-books initial least Unknown c z = started-books initial least Unknown false 
 new-books initial least (Known p) c z = started-books initial least (Known p) true c z
 
 off-books : (x least : ℕ) → switchedOff x least .answer ≡ 0 → Books (say (told.disabled x least) (switchedOff x least) ∷ []) (switchedOff x least .mtud)
-unfolding switchedOff known after
-off-books x least = by (sizeB x && sizeB least)
-  where
-    by : (b : Bool) → cond {A = Done} b (done (opened x least false 65527 noConfig Off) 0) (refused blank 2) .answer ≡ 0
-        → Books (say (told.disabled x least) (cond {A = Done} b (done (opened x least false 65527 noConfig Off) 0) (refused blank 2)) ∷ [])
-        (cond {A = Done} b (done (opened x least false 65527 noConfig Off) 0) (refused blank 2) .mtud)
-    by true z =
-        opened-books (record { call = told.disabled x least; answer = 0; value = 0 }) [] x least false 65527 noConfig Off (told.off x least 0 []) refl refl refl (λ s h. not-off s h)
-    by false z = absurd (omega arith)
+unfolding known after
+off-books x least =
+    off-by (λ (r : Done). r .answer ≡ 0 → Books (say (told.disabled x least) r ∷ []) (r .mtud)) x least
+    (λ s l z.
+    opened-books (record { call = told.disabled x least; answer = 0; value = 0 }) [] x least false 65527 noConfig Off (told.off x least 0 []) refl refl refl (λ s h. not-off s h))
+    (λ z. absurd (omega arith))
 
 -- ---- all calls
 -- such a history is one of the record's

@@ -1,27 +1,27 @@
 -- One search, from its first probe on, whatever is called and answered in whatever order: each call that touches it is a call of the search's own
 -- (mtu_search, History), so what holds of those holds here. A history is made of what the functions' own contracts allow. Assumes nothing.
 use mathlib.Core.Path.{_≡_, refl, ap, sym, _∙_, subst}
-use mathlib.Core.Bool.{Bool, true, false, cond, _&&_}
+use mathlib.Core.Bool.{true, false}
 use mathlib.Core.List.{List, [], _∷_}
-use Prim.Native.Nat.{ℕ, _+_, _^_, _≤_, _<_, min}
+use Prim.Native.Nat.{ℕ, _^_, _≤_, _<_}
 use native.Mathlib.Omega.{arith}
-use lib.Dec.{eqb, ltb}
-use borrow.Author.Tests.{ltb-true}
+use lib.Dec.{eqb}
 use Rattle.black_hole.specs.declared.BlackHoleDetector.{BlackHoleDetector}
 use Rattle.black_hole.specs.BlackHole as hole
 use Rattle.mtu_search.specs.declared.SearchState.{SearchState}
 use Rattle.mtu_search.specs.declared.Turn.{Turn}
 use Rattle.mtu_search.specs.declared.Turn.the-variants.{Waiting, Probing, Over}
 use Rattle.mtu_search.specs.Search as search
-use Rattle.answers.proofs.Tests.{never, fst, snd}
+use Rattle.answers.proofs.Tests.{never, fst}
 use Rattle.mtu_search.proofs.Kept.{Fine, TurnFine, turn-fine}
 use Rattle.mtu_phase.specs.declared.Phase.{Phase}
 use Rattle.mtu_phase.specs.declared.Phase.the-variants.{Off, Initial, Searching, Complete}
 use Rattle.mtu_phase.specs.declared.MtuDiscoveryConfig.{MtuDiscoveryConfig}
 use Rattle.mtud.specs.declared.MtuDiscovery.{MtuDiscovery}
 use Rattle.mtud.specs.declared.Done.{Done}
-use Rattle.mtu_phase.specs.Phase.{sizeB, packetB, goodConfig, restarted, searchingB, offB}
-use Rattle.mtud.specs.Discovery.{good, put, at, watching, refused, done, opened, resetTo, rested, begunIn, turned, turnIn, byPhase, polled, capped, peerReceived, isProbe, delivered, probeDelivered, byAcked, acked, byLost, probeLost, late, packetLost, fallen, byHole, holeAsked}
+use Rattle.mtu_phase.specs.Phase.{goodConfig, restarted, searchingB}
+use Rattle.mtud.specs.Discovery.{at, watching, opened, resetTo, rested, begunIn, turned, turnIn, byPhase, polled, peerReceived, isProbe, delivered, byAcked, acked, byLost, probeLost, packetLost, fallen, holeAsked}
+use Rattle.mtud_history.proofs.Cases.{reset-by, polled-by, complete-by, rested-by, peer-by, acked-by, probe-by, lost-by, flying-by, packet-by, fallen-by, hole-by}
 use Rattle.mtud_history.proofs.Calls.{Reset, Poll, Peer, Acked, ProbeLost, Lost, Hole}
 use Rattle.mtud_history.proofs.Kept.{PhaseFine, Held, change-some, polled-held, acked-held, probe-lost-held, packet-lost-held, hole-held}
 use Rattle.mtud_history.proofs.History.{Run, held}
@@ -97,26 +97,16 @@ phase-facts q s m e f = subst (λ (x : Phase). PhaseFine x (m .config) (m .curre
 
 -- ---- a probe is asked for
 pub over-none : (m : MtuDiscovery) (now : ℕ) → rested m (m .current) (m .detector) now (m .config .interval) 0 .value ≡ 0
-unfolding rested
-over-none m now = by (ltb (now + m .config .interval) (2 ^ 64))
-  where
-    by : (b : Bool) → cond {A = Done} b (done (put m (m .current) (Complete (now + m .config .interval)) (m .detector)) 0) (refused m 2) .value ≡ 0
-    by true = refl
-    by false = refl
+over-none m now = rested-by (λ (r : Done). r .value ≡ 0) m (m .current) (m .detector) now (m .config .interval) 0 (λ e. refl) refl
 
-module _ (m : MtuDiscovery) (p now : ℕ) where
-  -- a turn that sends none, after which the search runs, has changed nothing
-  turned-waits : (t : Turn) → turned t m now .value ≡ 0 → searchingB (turned t m now .mtud .phase) ≡ true → (s : SearchState) → TurnFine t (m .current) (m .peer)
-      → turned t m now .mtud ≡ m
-  unfolding turned TurnFine rested searchingB
-  turned-waits Waiting e g s f = refl
-  turned-waits (Probing t) e g s f = absurd (omega (arith, f))
-  turned-waits Over e g s f = rests (ltb (now + m .config .interval) (2 ^ 64)) g
-    where
-      rests : (b : Bool) → searchingB (cond {A = Done} b (done (put m (m .current) (Complete (now + m .config .interval)) (m .detector)) 0) (refused m 2) .mtud .phase) ≡ true
-          → cond {A = Done} b (done (put m (m .current) (Complete (now + m .config .interval)) (m .detector)) 0) (refused m 2) .mtud ≡ m
-      rests true g = never g
-      rests false g = refl
+-- a turn that sends none, after which the search runs, has changed nothing
+turned-waits : (m : MtuDiscovery) (now : ℕ) (t : Turn) → TurnFine t (m .current) (m .peer) → turned t m now .value ≡ 0 → searchingB (turned t m now .mtud .phase) ≡ true
+    → turned t m now .mtud ≡ m
+unfolding turned TurnFine searchingB
+turned-waits m now Waiting f e g = refl
+turned-waits m now (Probing t) f e g = absurd (omega (arith, f))
+turned-waits m now Over f e g =
+    rested-by (λ (r : Done). searchingB (r .mtud .phase) ≡ true → r .mtud ≡ m) m (m .current) (m .detector) now (m .config .interval) 0 (λ h z. never z) (λ z. refl) g
 
 pub not-restarted : (q : Phase) → searchingB (restarted q) ≡ true → ⊥
 unfolding searchingB restarted
@@ -158,120 +148,77 @@ module _ (Ack Miss : ℕ → Type 0) (o : MtuDiscovery) (zs : List ℕ) (m : Mtu
   turned-next now n Over e hn h d = absurd (d (over-none m now))
 
   pub sends-going : (now n : ℕ) → (polled m now n .value ≡ 0 → ⊥) → Going Ack Miss o (polled m now n .value ∷ zs) (polled m now n .mtud)
-  unfolding polled
-  sends-going now n = by (good m && ltb n (2 ^ 62)) refl (polled-held m (k .peer) (k .held) now n)
-    where
-      by : (b : Bool) → (good m && ltb n (2 ^ 62)) ≡ b → Held (cond {A = Done} b (byPhase (m .phase) m now n) (refused m 2) .mtud) (k .peer)
-          → (cond {A = Done} b (byPhase (m .phase) m now n) (refused m 2) .value ≡ 0 → ⊥)
-          → Going Ack Miss o (cond {A = Done} b (byPhase (m .phase) m now n) (refused m 2) .value ∷ zs) (cond {A = Done} b (byPhase (m .phase) m now n) (refused m 2) .mtud)
-      by false e h d = absurd (d refl)
-      by true e h d =
-          let i = turn-is now n in
-          subst (λ (r : Done). Going Ack Miss o (r .value ∷ zs) (r .mtud)) (sym i)
-          (turned-next now n (search.turn s (m .config .change) n) (turn-at n) (ltb-true n (2 ^ 62) (snd (good m) (ltb n (2 ^ 62)) e))
-          (subst (λ (r : Done). Held (r .mtud) (k .peer)) i h)
-          (λ z. d (ap (λ (r : Done). r .value) i ∙ z)))
+  sends-going now n =
+      polled-by (λ (r : Done). Held (r .mtud) (k .peer) → (r .value ≡ 0 → ⊥) → Going Ack Miss o (r .value ∷ zs) (r .mtud)) m now n
+      (λ hn. subst (λ (r : Done). Held (r .mtud) (k .peer) → (r .value ≡ 0 → ⊥) → Going Ack Miss o (r .value ∷ zs) (r .mtud)) (sym (turn-is now n))
+      (turned-next now n (search.turn s (m .config .change) n) (turn-at n) hn))
+      (λ h d. absurd (d refl)) (polled-held m (k .peer) (k .held) now n)
 
   -- a record with the same phase and settings
   stays : (r : MtuDiscovery) → Held r (k .peer) → r .phase ≡ m .phase → r .config ≡ m .config → Going Ack Miss o zs r
   stays r h e f = record { peer = k .peer; held = h; fit = k .fit; same = f ∙ k .same; state = s; at = e ∙ k .at; steps = k .steps }
 
   waits-going : (now n : ℕ) → polled m now n .value ≡ 0 → searchingB (polled m now n .mtud .phase) ≡ true → Going Ack Miss o zs (polled m now n .mtud)
-  unfolding polled
-  waits-going now n = by (good m && ltb n (2 ^ 62)) refl
-    where
-      by : (b : Bool) → (good m && ltb n (2 ^ 62)) ≡ b → cond {A = Done} b (byPhase (m .phase) m now n) (refused m 2) .value ≡ 0
-          → searchingB (cond {A = Done} b (byPhase (m .phase) m now n) (refused m 2) .mtud .phase) ≡ true
-          → Going Ack Miss o zs (cond {A = Done} b (byPhase (m .phase) m now n) (refused m 2) .mtud)
-      by false e z g = k
-      by true e z g =
-          let c = m .config .change in
-          let i = turn-is now n in
-          let hc = change-some (m .config) (fine .0) in
-          let hn = ltb-true n (2 ^ 62) (snd (good m) (ltb n (2 ^ 62)) e) in
-          let w = turned-waits m (k .peer) now (search.turn s c n) (ap (λ (r : Done). r .value) (sym i) ∙ z)
-          (ap (λ (r : Done). searchingB (r .mtud .phase)) (sym i) ∙ g)
-          s (turn-fine s (m .current) (m .peer) (fine .1) c n hc hn)
-          in
-          subst (λ (q : MtuDiscovery). Going Ack Miss o zs q) (sym (ap (λ (r : Done). r .mtud) i ∙ w)) k
+  waits-going now n =
+      polled-by (λ (r : Done). r .value ≡ 0 → searchingB (r .mtud .phase) ≡ true → Going Ack Miss o zs (r .mtud)) m now n
+      (λ hn. subst (λ (r : Done). r .value ≡ 0 → searchingB (r .mtud .phase) ≡ true → Going Ack Miss o zs (r .mtud)) (sym (turn-is now n))
+      (λ z g.
+      let c = m .config .change in
+      let f = turn-fine s (m .current) (m .peer) (fine .1) c n (change-some (m .config) (fine .0)) hn in
+      subst (λ (q : MtuDiscovery). Going Ack Miss o zs q) (sym (turned-waits m now (search.turn s c n) f z g)) k))
+      (λ z g. k)
 
   -- ---- other calls
-  ack-is : (n x : ℕ) → byAcked (m .phase) m n x ≡ cond (isProbe s n) (probeDelivered m s n x) (delivered m n x)
-  unfolding byAcked
-  ack-is n x = ap (λ (q : Phase). byAcked q m n x) (k .at)
-
   -- the newest probe is the last one
   newest-is : newest zs ≡ s .last
   newest-is = sure Ack Miss (o .current) (o .peer) (o .config .upper) (o .config .change) (k .fit) (k .steps) .newest
 
+  abbrev Acks : Done → Type 0
+  Acks r = Held (r .mtud) (k .peer) → (r .value ≡ 1 → Ack (newest zs)) → Going Ack Miss o zs (r .mtud)
+
   pub ack-going : (n x : ℕ) → (acked m n x .value ≡ 1 → Ack (newest zs)) → Going Ack Miss o zs (acked m n x .mtud)
-  unfolding acked
-  ack-going n x = by (good m && packetB n x) (acked-held m (k .peer) (k .held) n x)
-    where
-      probe : (b : Bool) → isProbe s n ≡ b → Held (cond {A = Done} b (probeDelivered m s n x) (delivered m n x) .mtud) (k .peer)
-          → (cond {A = Done} b (probeDelivered m s n x) (delivered m n x) .value ≡ 1 → Ack (newest zs))
-          → Going Ack Miss o zs (cond {A = Done} b (probeDelivered m s n x) (delivered m n x) .mtud)
-      probe true f h a =
-          record {
-            peer = k .peer;
-            held = h;
-            fit = k .fit;
-            same = k .same;
-            state = search.acked s;
-            at = refl;
-            steps = acks (search.acked s) (k .steps) (probe-flies s n f) (subst Ack newest-is (a refl)) refl;
-          }
-      probe false f h a = stays (delivered m n x .mtud) h refl refl
+  ack-going n x =
+      acked-by Acks m n x
+      (λ e. subst (λ (q : Phase). Acks (byAcked q m n x)) (sym (k .at))
+      (probe-by Acks m s n x
+      (λ f h a.
+      record {
+        peer = k .peer;
+        held = h;
+        fit = k .fit;
+        same = k .same;
+        state = search.acked s;
+        at = refl;
+        steps = acks (search.acked s) (k .steps) (probe-flies s n f) (subst Ack newest-is (a refl)) refl;
+      })
+      (λ h a. stays (delivered m n x .mtud) h refl refl)))
+      (λ h a. k) (acked-held m (k .peer) (k .held) n x)
 
-      by : (b : Bool) → Held (cond {A = Done} b (byAcked (m .phase) m n x) (refused m 2) .mtud) (k .peer)
-          → (cond {A = Done} b (byAcked (m .phase) m n x) (refused m 2) .value ≡ 1 → Ack (newest zs))
-          → Going Ack Miss o zs (cond {A = Done} b (byAcked (m .phase) m n x) (refused m 2) .mtud)
-      by false h a = k
-      by true h a =
-          let i = ack-is n x in
-          subst (λ (r : Done). Going Ack Miss o zs (r .mtud)) (sym i)
-          (probe (isProbe s n) refl (subst (λ (r : Done). Held (r .mtud) (k .peer)) i h) (λ z. a (ap (λ (r : Done). r .value) i ∙ z)))
-
-  miss-is : byLost (m .phase) m ≡ cond (s .flying) (done (at m (Searching (search.missed s))) 0) (refused m 6)
-  unfolding byLost
-  miss-is = ap (λ (q : Phase). byLost q m) (k .at)
+  abbrev Loses : Done → Type 0
+  Loses r = Held (r .mtud) (k .peer) → (r .answer ≡ 0 → Miss (newest zs)) → Going Ack Miss o zs (r .mtud)
 
   pub miss-going : (probeLost m .answer ≡ 0 → Miss (newest zs)) → Going Ack Miss o zs (probeLost m .mtud)
-  unfolding probeLost
-  miss-going = by (good m) (probe-lost-held m (k .peer) (k .held))
-    where
-      probe : (b : Bool) → s .flying ≡ b → Held (cond {A = Done} b (done (at m (Searching (search.missed s))) 0) (refused m 6) .mtud) (k .peer)
-          → (cond {A = Done} b (done (at m (Searching (search.missed s))) 0) (refused m 6) .answer ≡ 0 → Miss (newest zs))
-          → Going Ack Miss o zs (cond {A = Done} b (done (at m (Searching (search.missed s))) 0) (refused m 6) .mtud)
-      probe true f h a =
-          record {
-            peer = k .peer;
-            held = h;
-            fit = k .fit;
-            same = k .same;
-            state = search.missed s;
-            at = refl;
-            steps = loses (search.missed s) (k .steps) f (subst Miss newest-is (a refl)) refl;
-          }
-      probe false f h a = k
-
-      by : (b : Bool) → Held (cond {A = Done} b (byLost (m .phase) m) (refused m 2) .mtud) (k .peer)
-          → (cond {A = Done} b (byLost (m .phase) m) (refused m 2) .answer ≡ 0 → Miss (newest zs))
-          → Going Ack Miss o zs (cond {A = Done} b (byLost (m .phase) m) (refused m 2) .mtud)
-      by false h a = k
-      by true h a =
-          subst (λ (r : Done). Going Ack Miss o zs (r .mtud)) (sym miss-is)
-          (probe (s .flying) refl (subst (λ (r : Done). Held (r .mtud) (k .peer)) miss-is h) (λ z. a (ap (λ (r : Done). r .answer) miss-is ∙ z)))
+  miss-going =
+      lost-by Loses m
+      (subst (λ (q : Phase). Loses (byLost q m)) (sym (k .at))
+      (flying-by Loses m s
+      (λ f h a.
+      record {
+        peer = k .peer;
+        held = h;
+        fit = k .fit;
+        same = k .same;
+        state = search.missed s;
+        at = refl;
+        steps = loses (search.missed s) (k .steps) f (subst Miss newest-is (a refl)) refl;
+      })
+      (λ h a. k)))
+      (λ h a. k) (probe-lost-held m (k .peer) (k .held))
 
   lose-going : (n x : ℕ) → Going Ack Miss o zs (packetLost m n x .mtud)
-  unfolding packetLost
-  lose-going n x = by (good m && packetB n x) (late (m .detector) n) (packet-lost-held m (k .peer) (k .held) n x)
-    where
-      by : (b c : Bool) → Held (cond {A = Done} b (cond {A = Done} c (refused m 6) (done (watching m (hole.lost (m .detector) n x)) 0)) (refused m 2) .mtud) (k .peer)
-          → Going Ack Miss o zs (cond {A = Done} b (cond {A = Done} c (refused m 6) (done (watching m (hole.lost (m .detector) n x)) 0)) (refused m 2) .mtud)
-      by true true h = k
-      by true false h = stays _ h refl refl
-      by false c h = k
+  lose-going n x =
+      packet-by (λ (r : Done). Held (r .mtud) (k .peer) → Going Ack Miss o zs (r .mtud)) m n x (λ h. k) (λ e h. stays (watching m (hole.lost (m .detector) n x)) h refl refl) (λ h. k)
+      (packet-lost-held m (k .peer) (k .held) n x)
 
   -- the peer's maximum is refused while a search runs
   pub runs : searchingB (m .phase) ≡ true
@@ -279,53 +226,24 @@ module _ (Ack Miss : ℕ → Type 0) (o : MtuDiscovery) (zs : List ℕ) (m : Mtu
   runs = ap searchingB (k .at)
 
   peer-going : (x : ℕ) → Going Ack Miss o zs (peerReceived m x .mtud)
-  unfolding peerReceived
-  peer-going x = by (good m && sizeB x) (searchingB (m .phase)) refl
-    where
-      by : (b c : Bool) → searchingB (m .phase) ≡ c → Going Ack Miss o zs (cond {A = Done} b (cond {A = Done} c (refused m 6) (done (capped m x) 0)) (refused m 2) .mtud)
-      by true true e = k
-      by true false e = never (sym e ∙ runs)
-      by false c e = k
+  peer-going x = peer-by (λ (r : Done). Going Ack Miss o zs (r .mtud)) m x (λ e. k) (λ e f. never (sym f ∙ runs)) k
 
-  fallen-ends : (d : BlackHoleDetector) (now : ℕ) → searchingB (fallen m d now .mtud .phase) ≡ true → fallen m d now .mtud ≡ m
-  unfolding fallen rested searchingB
-  fallen-ends d now = by (offB (m .phase)) (ltb (now + m .config .cooldown) (2 ^ 64))
-    where
-      x : ℕ
-      x = min (d .minimum) (m .peer)
-
-      by : (b c : Bool)
-          → searchingB (cond {A = Done} b (done (put m x Off d) 1) (cond {A = Done} c (done (put m x (Complete (now + m .config .cooldown)) d) 1) (refused m 2)) .mtud .phase) ≡ true
-          → cond {A = Done} b (done (put m x Off d) 1) (cond {A = Done} c (done (put m x (Complete (now + m .config .cooldown)) d) 1) (refused m 2)) .mtud ≡ m
-      by true c e = never e
-      by false true e = never e
-      by false false e = refl
+  -- a black hole ends the search
+  fallen-ends : (d : BlackHoleDetector) (now : ℕ) → searchingB (fallen m d now .mtud .phase) ≡ true → Going Ack Miss o zs (fallen m d now .mtud)
+  unfolding searchingB
+  fallen-ends d now = fallen-by (λ (r : Done). searchingB (r .mtud .phase) ≡ true → Going Ack Miss o zs (r .mtud)) m d now (λ e. never e) (λ f e. never e) (λ e. k)
 
   ask-going : (now : ℕ) → searchingB (holeAsked m now .mtud .phase) ≡ true → Going Ack Miss o zs (holeAsked m now .mtud)
-  unfolding holeAsked byHole
-  ask-going now = by (good m) (hole.detected (m .detector) .found) (hole-held m (k .peer) (k .held) now)
-    where
-      d : BlackHoleDetector
-      d = hole.detected (m .detector) .detector
+  ask-going now =
+      let d = hole.detected (m .detector) .detector in
+      hole-by (λ (r : Done). Held (r .mtud) (k .peer) → searchingB (r .mtud .phase) ≡ true → Going Ack Miss o zs (r .mtud)) m now (λ h. fallen-ends d now)
+      (λ h e. stays (watching m d) h refl refl) (λ h e. k) (hole-held m (k .peer) (k .held) now)
 
-      by : (b c : Bool) → Held (cond {A = Done} b (cond {A = Done} c (fallen m d now) (done (watching m d) 0)) (refused m 2) .mtud) (k .peer)
-          → searchingB (cond {A = Done} b (cond {A = Done} c (fallen m d now) (done (watching m d) 0)) (refused m 2) .mtud .phase) ≡ true
-          → Going Ack Miss o zs (cond {A = Done} b (cond {A = Done} c (fallen m d now) (done (watching m d) 0)) (refused m 2) .mtud)
-      by true true h e = subst (λ (q : MtuDiscovery). Going Ack Miss o zs q) (sym (fallen-ends d now e)) k
-      by true false h e = stays _ h refl refl
-      by false c h e = k
-
+  -- so does a reset
   reset-going : (x least : ℕ) → searchingB (resetTo m x least .mtud .phase) ≡ true → Going Ack Miss o zs (resetTo m x least .mtud)
-  unfolding resetTo opened searchingB
-  reset-going x least = by (good m && (sizeB x && sizeB least))
-    where
-      none : (q : Phase) → searchingB (restarted q) ≡ true → ⊥
-      none q e = not-restarted q e
-
-      by : (b : Bool) → searchingB (cond {A = Done} b (done (opened x least (m .told) (m .peer) (m .config) (restarted (m .phase))) 0) (refused m 2) .mtud .phase) ≡ true
-          → Going Ack Miss o zs (cond {A = Done} b (done (opened x least (m .told) (m .peer) (m .config) (restarted (m .phase))) 0) (refused m 2) .mtud)
-      by true e = absurd (none (m .phase) e)
-      by false e = k
+  unfolding opened
+  reset-going x least =
+      reset-by (λ (r : Done). searchingB (r .mtud .phase) ≡ true → Going Ack Miss o zs (r .mtud)) m x least (λ s l e. absurd (not-restarted (m .phase) e)) (λ e. k)
 
 -- ---- the first probe
 module _ (Ack Miss : ℕ → Type 0) (m : MtuDiscovery) (p now n : ℕ) (k : Held m p) where
@@ -345,29 +263,19 @@ module _ (Ack Miss : ℕ → Type 0) (m : MtuDiscovery) (p now n : ℕ) (k : Hel
       }
   turned-first Over c e hn h d = absurd (d (over-none m now))
 
-  begins-by : (q : Phase) → n < 2 ^ 62 → searchingB q ≡ false → PhaseFine q (m .config) (m .current) (m .peer) → Held (byPhase q m now n .mtud) p → (byPhase q m now n .value ≡ 0 → ⊥)
-      → Going Ack Miss m (byPhase q m now n .value ∷ []) (byPhase q m now n .mtud)
+  abbrev Begins : Done → Type 0
+  Begins r = Held (r .mtud) p → (r .value ≡ 0 → ⊥) → Going Ack Miss m (r .value ∷ []) (r .mtud)
+
+  begins-by : (q : Phase) → n < 2 ^ 62 → searchingB q ≡ false → PhaseFine q (m .config) (m .current) (m .peer) → Begins (byPhase q m now n)
   unfolding byPhase PhaseFine searchingB
-  begins-by Off hn g f h d = absurd (d refl)
-  begins-by Initial hn g f h d = turned-first (search.turn (begunIn m) (m .config .change) n) f refl hn h d
-  begins-by (Searching s) hn g f h d = never (sym g)
-  begins-by (Complete until) hn g f h d = early (ltb now until) h d
-    where
-      early : (b : Bool) → Held (cond {A = Done} b (done m 0) (turnIn m (begunIn m) now n) .mtud) p
-          → (cond {A = Done} b (done m 0) (turnIn m (begunIn m) now n) .value ≡ 0 → ⊥)
-          → Going Ack Miss m (cond {A = Done} b (done m 0) (turnIn m (begunIn m) now n) .value ∷ []) (cond {A = Done} b (done m 0) (turnIn m (begunIn m) now n) .mtud)
-      early true h d = absurd (d refl)
-      early false h d = turned-first (search.turn (begunIn m) (m .config .change) n) f refl hn h d
+  begins-by Off hn g f = λ h d. absurd (d refl)
+  begins-by Initial hn g f = turned-first (search.turn (begunIn m) (m .config .change) n) f refl hn
+  begins-by (Searching s) hn g f = never (sym g)
+  begins-by (Complete until) hn g f =
+      complete-by Begins m until now n (λ e h d. absurd (d refl)) (λ e. turned-first (search.turn (begunIn m) (m .config .change) n) f refl hn)
 
   pub begins-going : searchingB (m .phase) ≡ false → (polled m now n .value ≡ 0 → ⊥) → Going Ack Miss m (polled m now n .value ∷ []) (polled m now n .mtud)
-  unfolding polled
-  begins-going g = by (good m && ltb n (2 ^ 62)) refl (polled-held m p k now n)
-    where
-      by : (b : Bool) → (good m && ltb n (2 ^ 62)) ≡ b → Held (cond {A = Done} b (byPhase (m .phase) m now n) (refused m 2) .mtud) p
-          → (cond {A = Done} b (byPhase (m .phase) m now n) (refused m 2) .value ≡ 0 → ⊥)
-          → Going Ack Miss m (cond {A = Done} b (byPhase (m .phase) m now n) (refused m 2) .value ∷ []) (cond {A = Done} b (byPhase (m .phase) m now n) (refused m 2) .mtud)
-      by true e h d = begins-by (m .phase) (ltb-true n (2 ^ 62) (snd (good m) (ltb n (2 ^ 62)) e)) g (k .phase) h d
-      by false e h d = absurd (d refl)
+  begins-going g = polled-by Begins m now n (λ hn. begins-by (m .phase) hn g (k .phase)) (λ h d. absurd (d refl)) (polled-held m p k now n)
 
 -- ---- the same of what a contract allows
 module _ (Ack Miss : ℕ → Type 0) (o : MtuDiscovery) (zs : List ℕ) (m : MtuDiscovery) (k : Going Ack Miss o zs m) (r : Done) where

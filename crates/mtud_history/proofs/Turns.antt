@@ -1,15 +1,13 @@
 -- What a turn of a search leaves, where it sends a probe: the probe is in flight, and the upper bound is not raised, from at most the configured one on.
 -- By the cases of the definition. Assumes nothing.
 use mathlib.Core.Path.{_≡_, refl}
-use mathlib.Core.Bool.{Bool, true, false, cond}
+use mathlib.Core.Bool.{true}
 use Prim.Native.Nat.{ℕ, _-_, _≤_, _<_, min, max}
 use native.Mathlib.Omega.{arith}
-use lib.Dec.{eqb, ltb}
-use borrow.Author.Tests.{eqb-false}
 use Rattle.mtu_search.specs.declared.SearchState.{SearchState}
 use Rattle.mtu_search.specs.declared.Turn.{Turn}
 use Rattle.mtu_search.specs.declared.Turn.the-variants.{Waiting, Probing, Over}
-use Rattle.mtu_search.specs.Search.{begun, chosen, sent, onward, turn}
+use Rattle.mtu_search.specs.Search.{begun, chosen, onward, turn}
 use Rattle.mtu_search.proofs.Laws.{onward-by, turn-by}
 use Rattle.mtu_search.proofs.Kept.{choice, chosen-between, Fine}
 
