@@ -11,10 +11,10 @@ use Rattle.answers.proofs.Tests.{split}
 use Rattle.mtu_search.specs.declared.SearchState.{SearchState}
 use Rattle.mtu_search.specs.declared.Turn.the-variants.{Probing, Over}
 use Rattle.mtu_search.specs.Search.{begun, half, chosen, sent, turn, acked, missed, known}
-use Rattle.mtu_search.specs.Measure.{edge, sizesMost, shortfall}
+use Rattle.mtu_search.specs.Measure.{edge, up, sizesMost, shortfall}
 use Rattle.mtu_search.specs.Count.{times, sizes}
 use Rattle.mtu_search.proofs.Laws.{chosen-half, chosen-upper, chosen-none, onward-sent, onward-over, turn-won, turn-again, turn-lost, known-lost}
-use Rattle.mtu_search.proofs.Levels.{up, levels-stop, levels-half, most-some}
+use Rattle.mtu_search.proofs.Levels.{levels-stop, levels-half, most-some}
 use Rattle.mtu_search.proofs.Counts.{times-here, times-none, sizes-old, sizes-new, sizes-none}
 use Rattle.mtu_search.proofs.History.{Poll, Steps, opens, probes, acks, loses, Passes, Stops, Fit, sure}
 

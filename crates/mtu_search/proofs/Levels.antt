@@ -2,16 +2,12 @@
 -- with 2 m - 3 for the edge; and what that comes to up to 1,500. By induction on the halvings. Assumes nothing.
 use mathlib.Core.Path.{_≡_, refl, ap, sym, _∙_}
 use mathlib.Core.Logic.{⊎-elim}
-use Prim.Native.Nat.{ℕ, zero, suc, _+_, _*_, _/_, _^_, _≤_, _<_}
+use Prim.Native.Nat.{ℕ, zero, suc, _*_, _^_, _≤_, _<_}
 use native.Mathlib.Omega.{arith}
 use native.Mathlib.Nat.{pow-suc, mul-comm, mul-one, mul-left-comm, mul-le-mul-right}
 use borrow.Author.Tests.{le-leb, lt-leb}
 use Rattle.answers.proofs.Tests.{split}
-use Rattle.mtu_search.specs.Measure.{edge, level, levels, sizesMost}
-
--- the width halved, rounded up
-abbrev pub up : ℕ → ℕ
-up w = (w + 1) / 2
+use Rattle.mtu_search.specs.Measure.{edge, up, level, levels, sizesMost}
 
 -- ---- one halving
 level-none : (c w : ℕ) → level 0 c w ≡ 0

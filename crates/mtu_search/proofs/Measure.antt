@@ -11,10 +11,10 @@ use Rattle.mtu_search.specs.declared.SearchState.{SearchState}
 use Rattle.mtu_search.specs.declared.Turn.{Turn}
 use Rattle.mtu_search.specs.declared.Turn.the-variants.{Waiting, Probing, Over}
 use Rattle.mtu_search.specs.Search.{begun, half, chosen, sent, onward, turn, acked, missed}
-use Rattle.mtu_search.specs.Measure.{edge, sizesMost, afterLost, sizesLeft, triesLeft, sizesIn, probesIn}
+use Rattle.mtu_search.specs.Measure.{edge, up, sizesMost, afterLost, sizesLeft, triesLeft, sizesIn, probesIn}
 use Rattle.mtu_search.proofs.Laws.{onward-by, turn-by}
 use Rattle.mtu_search.proofs.Kept.{Choice, nothing, middle, bound, choice, Fine}
-use Rattle.mtu_search.proofs.Levels.{up, levels-half, levels-mono, most-none, most-some}
+use Rattle.mtu_search.proofs.Levels.{levels-half, levels-mono, most-none, most-some}
 
 max-below : (a b n : ℕ) → a < n → b < n → max a b < n
 max-below a b n h l = omega arith

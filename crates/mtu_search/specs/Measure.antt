@@ -12,10 +12,14 @@ use Rattle.mtu_search.specs.declared.SearchState.{SearchState}
 abbrev pub edge : ℕ → ℕ
 edge change = max 1 (2 * change - 3)
 
--- how often a width is halved, rounded up, until it is c or less; at most k times
+-- a width halved, rounded up
+abbrev pub up : ℕ → ℕ
+up w = (w + 1) / 2
+
+-- how often a width is halved so until it is c or less; at most k times
 unfoldable pub level : ℕ → ℕ → ℕ → ℕ
 level zero c w = 0
-level (suc k) c w = cond (leb w c) 0 (suc (level k c ((w + 1) / 2)))
+level (suc k) c w = cond (leb w c) 0 (suc (level k c (up w)))
 
 -- the same down to the edge: 16 times suffice, as sizes have 16 bits. It is the least k with w ≤ edge * 2 ^ k (Levels, `levels-enough` and `levels-least`)
 unfoldable pub levels : ℕ → ℕ → ℕ
@@ -32,7 +36,7 @@ shortfall change = max 1 (2 * change - 4)
 -- ---- of a search that runs
 -- sizes that are left for the width w between the bounds, after the last size was lost; after it was acknowledged they are those of a search of that width
 unfoldable pub afterLost : ℕ → ℕ → ℕ
-afterLost change w = cond (ltb w (max 2 (edge change))) 0 (suc (sizesMost change ((w + 1) / 2)))
+afterLost change w = cond (ltb w (max 2 (edge change))) 0 (suc (sizesMost change (up w)))
 
 -- sizes that are left while the size `last` is out
 unfoldable pub sizesLeft : ℕ → ℕ → ℕ → ℕ → ℕ

@@ -23,6 +23,7 @@ use Rattle.mtud.specs.declared.MtuDiscovery.{MtuDiscovery}
 use Rattle.mtud.specs.declared.Done.{Done}
 use Rattle.mtud.specs.declared.Size.{Size}
 use Rattle.mtud.specs.Discovery.{good, rested, turned, byPhase, polled, inFlight}
+use Rattle.mtud_history.specs.Bounds.{sizesOf}
 use Rattle.mtud_history.proofs.Cases.{polled-by, rested-by}
 use Rattle.mtud_history.proofs.Calls.{Poll, Flying, CurrentMtu}
 use Rattle.mtud_history.proofs.Kept.{Held, held-good, change-some, polled-held}
@@ -30,7 +31,7 @@ use Rattle.mtud_history.proofs.History.{size-is}
 use Rattle.mtu_search.proofs.History.{Any, Passes, Stops}
 use Rattle.mtu_search.proofs.Distance.{steps-near}
 use Rattle.mtud_history.proofs.Searches.{Search, sends, startOf, Obeys, free, Going, going, fine, turn-is, turn-at, runs}
-use Rattle.mtud_history.proofs.Sizes.{sizesOf, search-sizes}
+use Rattle.mtud_history.proofs.Sizes.{search-sizes}
 
 -- ---- a poll in a search is the search's turn
 pub poll-is : (m : MtuDiscovery) (now n : ℕ) → good m ≡ true → n < 2 ^ 62 → polled m now n ≡ byPhase (m .phase) m now n

@@ -14,11 +14,12 @@ use Rattle.mtud.specs.declared.PeerMax.the-variants.{Unknown, Known}
 use Rattle.mtud.specs.declared.MtuDiscovery.{MtuDiscovery}
 use Rattle.mtud.specs.declared.Done.{Done}
 use Rattle.mtud.specs.Discovery.{opened, startedWith, started}
+use Rattle.mtud_history.specs.Bounds.{Due}
 use Rattle.mtud_history.specs.Told.{peerOf}
 use Rattle.mtud_history.proofs.Cases.{started-by}
 use Rattle.mtud_history.proofs.Calls.{New}
 use Rattle.mtud_history.proofs.History.{begun}
-use Rattle.mtud_history.proofs.Plays.{Due, Ends, search-ends, Finds, search-finds}
+use Rattle.mtud_history.proofs.Plays.{Ends, search-ends, Finds, search-finds}
 
 module _ (initial least : ℕ) (q : PeerMax) (c : MtuDiscoveryConfig) where
   -- a search begins at the initial size, or the peer's maximum if that is smaller, and goes up to the configured size, or the peer's maximum

@@ -25,22 +25,15 @@ use Rattle.mtud.specs.declared.MtuDiscovery.{MtuDiscovery}
 use Rattle.mtud.specs.declared.Done.{Done}
 use Rattle.mtud.specs.declared.Size.{Size}
 use Rattle.mtud.specs.Discovery.{begunIn, turnIn, byPhase, polled, acked, probeLost}
+use Rattle.mtud_history.specs.Bounds.{Due, sizesOf}
 use Rattle.mtud_history.proofs.Calls.{Poll, Acked, ProbeLost, CurrentMtu}
 use Rattle.mtud_history.proofs.Kept.{PhaseFine, Held, held-good, change-some, polled-held}
 use Rattle.mtud_history.proofs.History.{Run, held, size-is}
 use Rattle.mtud_history.proofs.Searches.{Going, fine, turn-is, turn-at, begins-going, sends-going, ack-going, miss-going}
-use Rattle.mtud_history.proofs.Sizes.{sizesOf}
 use Rattle.mtud_history.proofs.Flights.{Sent, polled-sent, Idle, acked-idle, lost-idle}
 use Rattle.mtud_history.proofs.Ends.{Rests, rests-over, poll-is, turn-moves, turned-moves, moves-by}
 
 -- ---- what is said
--- a search may begin: it is on, none runs, and no rest does
-unfoldable pub Due : Phase → ℕ → Type 0
-Due Off now = ⊥
-Due Initial now = Unit
-Due (Searching s) now = ⊥
-Due (Complete until) now = until ≤ now
-
 -- from the record o on: each poll asks for a probe, which then is acknowledged where `ok` says so, or is lost. zs are their sizes, the newest first; after those
 -- zs it is polled at the time `clock zs` with the packet number `number zs`
 pub data Plays (ok : List ℕ → Bool) (clock number : List ℕ → ℕ) (o : MtuDiscovery) : List ℕ → MtuDiscovery → Type 0 where
@@ -99,8 +92,8 @@ unfolding search.begun
 begun-idle m = refl
 
 -- ---- each play, where `ok` acknowledges only sizes in Ack and loses only sizes in Miss
-module _ (Ack Miss : ℕ → Type 0) (ok : List ℕ → Bool) (yes : (x : ℕ) (zs : List ℕ) → ok (x ∷ zs) ≡ true → Ack x)
-    (not : (x : ℕ) (zs : List ℕ) → ok (x ∷ zs) ≡ false → Miss x) (clock number : List ℕ → ℕ) (p : ℕ) (o : MtuDiscovery) (k : Held o p) (due : Due (o .phase) (clock []))
+module _ (Ack Miss : ℕ → Type 0) (ok : List ℕ → Bool) (acks : (x : ℕ) (zs : List ℕ) → ok (x ∷ zs) ≡ true → Ack x)
+    (misses : (x : ℕ) (zs : List ℕ) → ok (x ∷ zs) ≡ false → Miss x) (clock number : List ℕ → ℕ) (p : ℕ) (o : MtuDiscovery) (k : Held o p) (due : Due (o .phase) (clock []))
     (fits : (zs : List ℕ) → clock zs + o .config .interval < 2 ^ 64) (small : (zs : List ℕ) → number zs < 2 ^ 62) where
   -- before the first poll, or in a search with no probe in flight
   data Stage : List ℕ → MtuDiscovery → Type 0 where
@@ -147,10 +140,10 @@ module _ (Ack Miss : ℕ → Type 0) (ok : List ℕ → Bool) (yes : (x : ℕ) (
       let f = fine Ack Miss o (x ∷ zs) m g .1 in
       let t = sure Ack Miss (o .current) (o .peer) (o .config .upper) (o .config .change) (g .fit) (g .steps) .newest in
       let y : x ≤ 65527 = omega (arith, f, t, g .held) in
-      later (ack-going Ack Miss o (x ∷ zs) m g n x (λ z. yes x zs e)) (acked-idle m n x s (held-good (g .held)) x h y)
+      later (ack-going Ack Miss o (x ∷ zs) m g n x (λ z. acks x zs e)) (acked-idle m n x s (held-good (g .held)) x h y)
 
   lost : (zs : List ℕ) (m : MtuDiscovery) (n x : ℕ) → Going Ack Miss o (x ∷ zs) m → Sent m n x → ok (x ∷ zs) ≡ false → Stage (x ∷ zs) (probeLost m .mtud)
-  lost zs m n x g s e = later (miss-going Ack Miss o (x ∷ zs) m g (λ z. not x zs e)) (lost-idle m n x s (held-good (g .held)))
+  lost zs m n x g s e = later (miss-going Ack Miss o (x ∷ zs) m g (λ z. misses x zs e)) (lost-idle m n x s (held-good (g .held)))
 
   module _ {zs : List ℕ} {m : MtuDiscovery} (s : Stage zs m) (r : Done) (e : r ≡ polled m (clock zs) (number zs)) (d : r .value ≡ 0 → ⊥) where
     sent : Going Ack Miss o (r .value ∷ zs) (r .mtud) × Sent (r .mtud) (number zs) (r .value)
@@ -214,14 +207,14 @@ module _ {p : ℕ} {o : MtuDiscovery} (ok : List ℕ → Bool) (clock number : L
 module _ (S : ℕ) (clock number : List ℕ → ℕ) (p : ℕ) (o : MtuDiscovery) (k : Held o p) (due : Due (o .phase) (clock []))
     (fits : (zs : List ℕ) → clock zs + o .config .interval < 2 ^ 64) (small : (zs : List ℕ) → number zs < 2 ^ 62)
     (low : o .current ≤ S) (high : S ≤ min (o .config .upper) (o .peer)) where
-  yes : (x : ℕ) (zs : List ℕ) → passes S (x ∷ zs) ≡ true → Passes S x
-  yes x zs e = leb-true x S e
+  within : (x : ℕ) (zs : List ℕ) → passes S (x ∷ zs) ≡ true → Passes S x
+  within x zs e = leb-true x S e
 
-  not : (x : ℕ) (zs : List ℕ) → passes S (x ∷ zs) ≡ false → Stops S x
-  not x zs e = leb-false x S e
+  above : (x : ℕ) (zs : List ℕ) → passes S (x ∷ zs) ≡ false → Stops S x
+  above x zs e = leb-false x S e
 
   abbrev At : List ℕ → MtuDiscovery → Type 0
-  At zs m = Stage (Passes S) (Stops S) (passes S) yes not clock number p o k due fits small zs m
+  At zs m = Stage (Passes S) (Stops S) (passes S) within above clock number p o k due fits small zs m
 
   record Near (m : MtuDiscovery) : Type 0 where
     pub peer : ℕ
@@ -235,14 +228,14 @@ module _ (S : ℕ) (clock number : List ℕ → ℕ) (p : ℕ) (o : MtuDiscovery
   stage-near first r =
       let n = number [] in
       let c = o .config .change in
-      let i = first-is (Passes S) (Stops S) (passes S) yes not clock number p o k due fits small in
+      let i = first-is (Passes S) (Stops S) (passes S) within above clock number p o k due fits small in
       let u = rests-over o (clock []) (search.turn (begunIn o) c n) (turn-moves (begunIn o) c n (begun-idle o)) (subst (λ (x : Done). Rests o (clock []) x) i r) in
       record { peer = p; held = k; near = first-near S (o .current) (o .peer) (o .config .upper) c settings low high (begunIn o) n refl u }
   stage-near (later {zs} {m} g i) r =
       let now = clock zs in
       let n = number zs in
       let c = m .config .change in
-      let f = idle-is (Passes S) (Stops S) (passes S) yes not clock number p o k due fits small g i in
+      let f = idle-is (Passes S) (Stops S) (passes S) within above clock number p o k due fits small g i in
       let t = poll-is m now n (held-good (g .held)) (small zs) ∙ turn-is (Passes S) (Stops S) o zs m g now n in
       let u = rests-over m now (search.turn (g .state) c n) (turn-moves (g .state) c n f) (subst (λ (x : Done). Rests m now x) t r) in
       let x = steps-near S (o .current) (o .peer) (o .config .upper) (o .config .change) (g .fit) low high n (g .steps) (u ∙ turn-at (Passes S) (Stops S) o zs m g n) in
@@ -253,7 +246,7 @@ module _ (S : ℕ) (clock number : List ℕ → ℕ) (p : ℕ) (o : MtuDiscovery
   finds = record { ends = y; near = at-end }
     where
       y : Ends (passes S) clock number o (sizesOf o)
-      y = ended (Passes S) (Stops S) (passes S) yes not clock number p o k due fits small
+      y = ended (Passes S) (Stops S) (passes S) within above clock number p o k due fits small
 
       at-end : (r : Done) (c : Size) → Poll (y .last) (clock (y .probes)) (number (y .probes)) r → CurrentMtu (r .mtud) c
           → (c .answer ≡ 0) × ((c .size ≤ S) × (S - c .size ≤ shortfall (o .config .change)))
@@ -262,7 +255,7 @@ module _ (S : ℕ) (clock number : List ℕ → ℕ) (p : ℕ) (o : MtuDiscovery
           let now = clock (y .probes) in
           let n = number (y .probes) in
           let v = y .rests r e in
-          let s = stage (Passes S) (Stops S) (passes S) yes not clock number p o k due fits small (y .played) in
+          let s = stage (Passes S) (Stops S) (passes S) within above clock number p o k due fits small (y .played) in
           let x = stage-near s (subst (λ (d : Done). Rests m now d) e v) in
           let j = subst (λ (d : Done). Held (d .mtud) (x .peer)) (sym e) (polled-held m (x .peer) (x .held) now n) in
           let z = size-is (r .mtud) c g (held-good j) in

@@ -4,7 +4,7 @@ use mathlib.Core.Path.{_≡_, refl}
 use mathlib.Core.Bool.{false}
 use mathlib.Core.List.{List}
 use mathlib.Core.Logic.{⊎-elim}
-use Prim.Native.Nat.{ℕ, zero, suc, _-_, _*_, _^_, _≤_, _<_, min}
+use Prim.Native.Nat.{ℕ, zero, suc, _*_, _^_, _≤_, _<_, min}
 use native.Mathlib.Omega.{arith}
 use lib.ListN.{length}
 use Rattle.answers.proofs.Tests.{split}
@@ -15,17 +15,10 @@ use Rattle.mtu_search.proofs.History.{Any, steps-sizes}
 use Rattle.mtu_phase.specs.Phase.{searchingB}
 use Rattle.mtud.specs.declared.MtuDiscovery.{MtuDiscovery}
 use Rattle.mtud.specs.declared.Done.{Done}
+use Rattle.mtud_history.specs.Bounds.{widthOf, sizesOf}
 use Rattle.mtud_history.proofs.Calls.{Poll}
 use Rattle.mtud_history.proofs.History.{Run}
 use Rattle.mtud_history.proofs.Searches.{Search, begins, sends, waits, ack, miss, lose, peer, ask, reset, startOf, free, going}
-
--- how far the bounds of the search are apart that begins with the record o: from its MTU up to the configured bound or the peer's maximum, the smaller
-abbrev pub widthOf : MtuDiscovery → ℕ
-widthOf o = min (o .config .upper) (o .peer) - o .current
-
--- how many sizes that search may try
-abbrev pub sizesOf : MtuDiscovery → ℕ
-sizesOf o = sizesMost (o .config .change) (widthOf o)
 
 -- a search has sent a probe
 search-some : {zs : List ℕ} {m : MtuDiscovery} → Search zs m → 1 ≤ length zs
