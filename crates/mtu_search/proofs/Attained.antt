@@ -1,5 +1,5 @@
--- Both bounds are attained, for every minimum change m from 3 on: on a path that passes every size but the upper bound a search tries as many sizes as
--- `sizesMost` allows, whatever its bounds, and where these are 2 m - 3 apart it ends as far below as `shortfall` allows.
+-- Both bounds are attained: on a path that passes every size but the upper bound a search tries as many sizes as `sizesMost` allows, whatever its bounds and the
+-- minimum change m, and where m is 3 or more and the bounds are 2 m - 3 apart it ends as far below as `shortfall` allows.
 -- By going that way: sizes half way pass as long as they are m apart, then the upper bound is lost three times. Assumes nothing.
 use mathlib.Core.Path.{_≡_, refl, ap, sym, _∙_}
 use mathlib.Core.Bool.{false}
@@ -22,7 +22,7 @@ use Rattle.mtu_search.proofs.History.{Poll, Steps, opens, probes, acks,
 abbrev middle : SearchState → ℕ
 middle s = half (s .last) (s .upper)
 
-module _ (current peer top change : ℕ) (fit : Fit current peer change) (three : 3 ≤ change) where
+module _ (current peer top change : ℕ) (fit : Fit current peer change) where
   -- the largest size that passes
   abbrev pub largest : ℕ
   largest = min top peer - 1
@@ -60,6 +60,7 @@ module _ (current peer top change : ℕ) (fit : Fit current peer change) (three 
     unfolding acked
     halved h =
         let t = sent (s .last) (s .upper) (middle s) 0 0 in
+        let c = fit .some in
         let e = chosen-half (s .last) (s .upper) (s .last) change (omega arith) (omega arith) in
         let i = turn-won s change 0 (k .idle) (k .none) (onward-sent (s .last) (s .upper) (s .last) change 0 (sym e) (λ z. omega arith)) in
         record { at = on (acks (acked t) (sends t (k .at) i) refl (omega (arith, k .bound, k .low)) refl); idle = refl; none = refl; bound = k .bound; low = omega (arith, k .low) }
@@ -107,6 +108,7 @@ module _ (current peer top change : ℕ) (fit : Fit current peer change) (three 
     -- up to the edge it is the last
     ends-there : change ≤ s .upper - s .last → s .upper - s .last ≤ edge change → Tried (sizes zs + sizesMost change (s .upper - s .last))
     ends-there h l =
+        let c = fit .some in
         let e = next-upper h (omega arith) in
         record {
           tried = s .upper ∷ zs;
@@ -118,6 +120,7 @@ module _ (current peer top change : ℕ) (fit : Fit current peer change) (three 
     -- above it one more is tried, half way below the upper bound that was lost
     one-more : edge change < s .upper - s .last → s .upper - s .last < 2 * change → Tried (sizes zs + sizesMost change (s .upper - s .last))
     one-more h l =
+        let m = fit .some in
         let x = half (s .last) (s .upper - 1) in
         let e = next-upper (omega arith) l in
         let p = thrice zs s k e in
@@ -130,30 +133,32 @@ module _ (current peer top change : ℕ) (fit : Fit current peer change) (three 
         let second = sizes-old u (u ∷ u ∷ zs) (omega (arith, times-here u (u ∷ zs))) in
         let first = sizes-old u (u ∷ zs) (omega (arith, times-here u zs)) in
         let w = u - s .last in
-        let two = most-some change w (omega arith) ∙ ap suc (levels-half change w h (omega (arith, fit .top, k .bound)) ∙ ap suc (levels-stop change (up w) (omega arith))) in
+        let two = most-some change w (omega arith) ∙ ap suc (levels-half change w (fit .some) h (omega (arith, fit .top, k .bound)) ∙ ap suc (levels-stop change (up w) (omega arith))) in
         record { tried = x ∷ u ∷ u ∷ u ∷ zs; state = t; steps = probes 0 t p i (omega arith); many = omega (arith, new, second, first, new-upper, two) }
 
     -- farther away the size half way is one, and the others are those of what is left
     half-more : 2 * change ≤ s .upper - s .last → Tried (sizes (middle s ∷ zs) + sizesMost change (s .upper - middle s)) → Tried (sizes zs + sizesMost change (s .upper - s .last))
     half-more h r =
+        let c = fit .some in
         let w = s .upper - s .last in
         let e : s .upper - middle s ≡ up w = omega arith in
         let new = sizes-new (middle s) zs (untried (k .at) (middle s) (omega arith) (omega arith)) in
-        let a = most-some change w (omega arith) ∙ ap suc (levels-half change w (omega arith) (omega (arith, fit .top, k .bound))) in
+        let a = most-some change w (omega arith) ∙ ap suc (levels-half change w (fit .some) (omega arith) (omega (arith, fit .top, k .bound))) in
         let b = ap (λ (v : ℕ). sizesMost change v) e ∙ most-some change (up w) (omega arith) in
         record { tried = r .tried; state = r .state; steps = r .steps; many = omega (arith, r .many, new, a, b) }
 
   climb : (f : ℕ) (zs : List ℕ) (s : SearchState) → Won zs s → change ≤ s .upper - s .last → s .upper - s .last ≤ f → Tried (sizes zs + sizesMost change (s .upper - s .last))
   unfolding acked
-  climb zero zs s k h l = absurd (omega arith)
+  climb zero zs s k h l = absurd (omega (arith, fit .some))
   climb (suc f) zs s k h l =
+      let c = fit .some in
       ⊎-elim (λ a. ⊎-elim (λ b. one-more zs s k b a) (λ b. ends-there zs s k h b) (split (edge change) (s .upper - s .last)))
       (λ a. half-more zs s k a (climb f (middle s ∷ zs) (acked (sent (s .last) (s .upper) (middle s) 0 0)) (halved zs s k a) (omega arith) (omega arith)))
       (split (s .upper - s .last) (2 * change))
 
   begun-won : change ≤ min top peer - current → Won [] (begun current peer top)
   unfolding begun
-  begun-won h = record { at = fresh; idle = refl; none = refl; bound = omega (arith, fit .under); low = omega (arith, fit .under) }
+  begun-won h = record { at = fresh; idle = refl; none = refl; bound = omega (arith, fit .under); low = omega (arith, fit .under, fit .some) }
 
   -- the theorem: so many sizes are tried where the path passes every size but the upper bound
   pub attained : change ≤ min top peer - current → Tried (sizesMost change (min top peer - current))
@@ -173,22 +178,22 @@ module _ (current peer top change : ℕ) (fit : Fit current peer change) (three 
     pub over : Poll state change 0 Over
     pub far : largest - known state ≡ shortfall change
 
-  none-left : (l u : ℕ) → u + 3 ≡ l + 2 * change → chosen l (u - 1) u change ≡ 0
-  none-left l u e = chosen-none l (u - 1) u change (omega arith) (omega arith)
+  none-left : (l u : ℕ) → 3 ≤ change → u + 3 ≡ l + 2 * change → chosen l (u - 1) u change ≡ 0
+  none-left l u three e = chosen-none l (u - 1) u change (omega arith) (omega arith)
 
-  far-below : (l u x : ℕ) → l ≡ x → u + 3 ≡ l + 2 * change → u - 1 - x ≡ shortfall change
-  far-below l u x i e = omega arith
+  far-below : (l u x : ℕ) → 3 ≤ change → l ≡ x → u + 3 ≡ l + 2 * change → u - 1 - x ≡ shortfall change
+  far-below l u x three i e = omega arith
 
   -- the theorem: where the bounds are 2 m - 3 apart only the upper bound is tried, and the search ends where it began
-  pub farthest : min top peer - current ≡ 2 * change - 3 → Farthest
+  pub farthest : 3 ≤ change → min top peer - current ≡ 2 * change - 3 → Farthest
   unfolding begun
-  farthest h =
+  farthest three h =
       let s = begun current peer top in
       let k = begun-won (omega arith) in
       let p = thrice [] s k (next-upper [] s k (omega (arith, fit .under)) (omega (arith, fit .under))) in
       let d = dropped [] s k 3 in
       let u : s .upper + 3 ≡ s .last + 2 * change = omega (arith, fit .under) in
-      let c = none-left (s .last) (s .upper) u in
+      let c = none-left (s .last) (s .upper) three u in
       let i = turn-lost d change 0 refl (λ z. omega arith) (omega arith) refl (onward-over (s .last) (s .upper - 1) (s .upper) change 0 (sym c) refl) in
       let e = known-lost d refl (λ z. omega arith) in
-      record { tried = s .upper ∷ s .upper ∷ s .upper ∷ []; state = d; steps = p; over = i; far = far-below (s .last) (min top peer) (known d) e (omega (arith, u, k .bound)) }
+      record { tried = s .upper ∷ s .upper ∷ s .upper ∷ []; state = d; steps = p; over = i; far = far-below (s .last) (min top peer) (known d) three e (omega (arith, u, k .bound)) }

@@ -1,5 +1,5 @@
--- How often a width is halved before it is the edge or less, and how many sizes that makes: the least k with w ≤ edge * 2 ^ k, from a minimum change of 3 on
--- with 2 m - 3 for the edge; and what that comes to up to 1,500. By induction on the halvings. Assumes nothing.
+-- How often a width is halved before it is the edge or less, and how many sizes that makes: the least k with w ≤ edge * 2 ^ k; and
+-- what that comes to up to 1,500. By induction on the halvings. Assumes nothing.
 use mathlib.Core.Path.{_≡_, refl, ap, sym, _∙_}
 use mathlib.Core.Logic.{⊎-elim}
 use Prim.Native.Nat.{ℕ, zero, suc, _*_, _^_, _≤_, _<_}
@@ -87,9 +87,9 @@ pub levels-stop : (change w : ℕ) → w ≤ edge change → levels change w ≡
 unfolding levels
 levels-stop change w h = level-stop 15 (edge change) w h
 
-pub levels-half : (change w : ℕ) → edge change < w → w ≤ 65536 → levels change w ≡ suc (levels change (up w))
+pub levels-half : (change w : ℕ) → 0 < change → edge change < w → w ≤ 65536 → levels change w ≡ suc (levels change (up w))
 unfolding levels
-levels-half change w a h =
+levels-half change w some a h =
     let b : up w ≤ 2 ^ 15 = omega arith in
     let c : 1 ≤ edge change = omega arith in
     level-step 15 (edge change) w a ∙ sym (ap suc (level-more 15 (edge change) (up w) c b))
@@ -99,17 +99,17 @@ unfolding levels
 levels-mono change v w h = level-mono 16 (edge change) (edge change) v w (omega arith) h
 
 -- so they are the least k with w ≤ edge * 2 ^ k
-pub levels-enough : (change w : ℕ) → w ≤ 65536 → w ≤ edge change * 2 ^ levels change w
+pub levels-enough : (change w : ℕ) → 0 < change → w ≤ 65536 → w ≤ edge change * 2 ^ levels change w
 unfolding levels
-levels-enough change w h = level-enough 16 (edge change) w (omega arith)
+levels-enough change w some h = level-enough 16 (edge change) w (omega arith)
 
 pub levels-least : (change w k : ℕ) → w ≤ edge change * 2 ^ k → levels change w ≤ k
 unfolding levels
 levels-least change w k h = level-least 16 (edge change) w k h
 
--- in plainer words: at most the least k with w < m * 2 ^ k, for m of 3 and more
-pub levels-plain : (change w k : ℕ) → 3 ≤ change → w < change * 2 ^ k → levels change w ≤ k
-levels-plain change w k c h = levels-least change w k (omega (arith, wider))
+-- in plainer words: at most the least k with w < m * 2 ^ k
+pub levels-plain : (change w k : ℕ) → w < change * 2 ^ k → levels change w ≤ k
+levels-plain change w k h = levels-least change w k (omega (arith, wider))
   where
     up-to : change ≤ edge change
     up-to = omega arith
@@ -145,5 +145,5 @@ level-300 = (refl, refl)
 pub most-8 : (change w : ℕ) → 3 ≤ change → w ≤ 300 → sizesMost change w ≤ 8
 most-8 change w c l = omega (arith, most-under change 3 w 300 (omega arith) l, level-300 .0)
 
-pub most-10 : (change w : ℕ) → w ≤ 300 → sizesMost change w ≤ 10
-most-10 change w l = omega (arith, most-under change 1 w 300 (omega arith) l, level-300 .1)
+pub most-10 : (change w : ℕ) → 0 < change → w ≤ 300 → sizesMost change w ≤ 10
+most-10 change w c l = omega (arith, most-under change 1 w 300 (omega arith) l, level-300 .1)

@@ -20,13 +20,13 @@ max-below : (a b n : ℕ) → a < n → b < n → max a b < n
 max-below a b n h l = omega arith
 
 -- above the edge, and at least there with 2 and more, said with sums
-edge-below : (change w : ℕ) → 1 < w → 2 * change ≤ w + 2 → edge change < w
-edge-below change w h l = omega arith
+edge-below : (change w : ℕ) → 0 < change → 2 * change ≤ w + 1 → 1 < w → edge change < w
+edge-below change w c l h = omega arith
 
 edge-within : (change w : ℕ) → 2 ≤ w → 2 * change ≤ w + 3 → max 2 (edge change) ≤ w
 edge-within change w h l = omega arith
 
-module _ (change : ℕ) where
+module _ (change : ℕ) (c : 0 < change) where
   most-mono : (v w : ℕ) → v ≤ w → sizesMost change v ≤ sizesMost change w
   most-mono v w h =
       ⊎-elim (λ d. omega (arith, most-none change v d))
@@ -51,8 +51,8 @@ module _ (change : ℕ) where
       -- a level less, and the upper bound is no farther
       halved : max 2 (edge change) ≤ w → change ≤ up w → afterLost change w ≤ sizesMost change w
       halved h l =
-          let a : edge change < w = omega arith in
-          omega (arith, lost-step w h, most-some change (up w) l, levels-half change w a f, most-some change w (omega arith))
+          let a = edge-below change w c (omega arith) (omega arith) in
+          omega (arith, lost-step w h, most-some change (up w) l, levels-half change w c a f, most-some change w (omega arith))
 
   -- the upper bound is lost: at most one size is left, and it had two
   bound-lost : (v w : ℕ) → w ≡ v + 1 → change ≤ w → w / 2 < change → w ≤ 65536 → afterLost change v < sizesMost change w
@@ -60,7 +60,7 @@ module _ (change : ℕ) where
       ⊎-elim (λ k. omega (arith, lost-stop v k, most-some change w l))
       (λ k.
       let o : edge change < w = omega arith in
-      omega (arith, lost-step v k, most-none change (up v) (omega arith), levels-half change w o f, most-some change w l))
+      omega (arith, lost-step v k, most-none change (up v) (omega arith), levels-half change w c o f, most-some change w l))
       (split v (max 2 (edge change)))
 
 module _ (lower upper change : ℕ) (le : lower ≤ upper) (c : 0 < change) (fits : upper ≤ 65536) where
@@ -71,17 +71,17 @@ module _ (lower upper change : ℕ) (le : lower ≤ upper) (c : 0 < change) (fit
   below : afterLost change (half lower upper - 1 - lower) ≤ sizesMost change (up wide)
   below =
       let v : ℕ = half lower upper - 1 - lower in
-      omega (arith, lost-won change (half lower upper - 1 - lower) (omega arith), most-mono change (half lower upper - 1 - lower) (up wide) (omega arith))
+      omega (arith, lost-won change c (half lower upper - 1 - lower) (omega arith), most-mono change c (half lower upper - 1 - lower) (up wide) (omega arith))
 
   above : sizesMost change (upper - half lower upper) ≤ sizesMost change (up wide)
-  above = most-mono change (upper - half lower upper) (up wide) (omega arith)
+  above = most-mono change c (upper - half lower upper) (up wide) (omega arith)
 
   -- after an acknowledged size, which is the lower bound now
   won-falls : (z : ℕ) → Choice lower upper lower change z → (z ≡ 0 → ⊥) → (change ≤ wide) × (sizesLeft lower upper z change < sizesMost change wide)
   unfolding sizesLeft
   won-falls z nothing d = absurd (d refl)
   won-falls z (middle h l) d =
-      let a = levels-half change wide (edge-below change wide (omega arith) (omega arith)) (omega arith) in
+      let a = levels-half change wide c (edge-below change wide c (omega arith) (omega arith)) (omega arith) in
       let y = most-some change wide (omega arith) in
       let x = most-some change (up wide) (omega arith) in
       (omega arith, max-below (sizesMost change (upper - half lower upper)) (afterLost change (half lower upper - 1 - lower)) _ (omega (arith, above)) (omega (arith, below)))
@@ -91,14 +91,14 @@ module _ (lower upper change : ℕ) (le : lower ≤ upper) (c : 0 < change) (fit
       top = omega (arith, most-none change (upper - upper) (omega arith), most-some change wide l)
 
       under : afterLost change (upper - 1 - lower) < sizesMost change wide
-      under = bound-lost change (upper - 1 - lower) wide (omega arith) l (omega arith) (omega arith)
+      under = bound-lost change c (upper - 1 - lower) wide (omega arith) l (omega arith) (omega arith)
 
   -- after a lost size, which is one above the upper bound now
   lost-falls : (last z : ℕ) → last ≡ upper + 1 → Choice lower upper last change z → (z ≡ 0 → ⊥) → sizesLeft lower upper z change < afterLost change wide
   unfolding sizesLeft
   lost-falls last z e nothing d = absurd (d refl)
   lost-falls last z e (middle h l) d =
-      let a = lost-step change wide (edge-within change wide (omega arith) (omega arith)) in
+      let a = lost-step change c wide (edge-within change wide (omega arith) (omega arith)) in
       max-below (sizesMost change (upper - half lower upper)) (afterLost change (half lower upper - 1 - lower)) _ (omega (arith, above)) (omega (arith, below))
   lost-falls last z e (bound h l) d = absurd (omega arith)
 

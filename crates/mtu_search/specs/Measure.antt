@@ -8,9 +8,9 @@ use lib.Dec.{eqb, ltb, leb}
 use Rattle.mtu_search.specs.declared.SearchState.{SearchState}
 
 -- ---- of a search whose bounds are w apart
--- the width up to which none is halved: 2 m - 3 for m of 3 and more
+-- the width up to which none is halved: 2 m - 3 for m of 3 and more, m for less
 abbrev pub edge : ℕ → ℕ
-edge change = max 1 (2 * change - 3)
+edge change = max change (2 * change - 3)
 
 -- a width halved, rounded up
 abbrev pub up : ℕ → ℕ

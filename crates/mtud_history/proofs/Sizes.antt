@@ -70,13 +70,13 @@ search-levels {zs} {m} h = ⊎-elim (λ d. absurd (omega (arith, k .0, most-none
     some : c ≤ w → (c ≤ w) × ((sizes zs ≤ suc (levels c w)) × (length zs ≤ 3 * suc (levels c w)))
     some d = let i = most-some c w d in (d, (omega (arith, k .1 .0), omega (arith, k .0)))
 
--- in plainer words, from a minimum change m of 3 on: at most one more than the least k for which the distance is below m * 2 ^ k
-pub search-plain : {zs : List ℕ} {m : MtuDiscovery} (h : Search zs m) (k : ℕ) → 3 ≤ startOf h .config .change → widthOf (startOf h) < startOf h .config .change * 2 ^ k
+-- in plainer words, m being the minimum change: at most one more than the least k for which the distance is below m * 2 ^ k
+pub search-plain : {zs : List ℕ} {m : MtuDiscovery} (h : Search zs m) (k : ℕ) → widthOf (startOf h) < startOf h .config .change * 2 ^ k
     → (sizes zs ≤ suc k) × (length zs ≤ 3 * suc k)
-search-plain {zs} {m} h k c l =
+search-plain {zs} {m} h k l =
     let s = search-levels h in
     let o = startOf h in
-    let i = levels-plain (o .config .change) (widthOf o) k c l in
+    let i = levels-plain (o .config .change) (widthOf o) k l in
     (omega (arith, s .1 .0), omega (arith, s .1 .1))
 
 -- where no size above 1,500 is tried: at most 8 sizes and 24 probes from a minimum change of 3 on, at most 10 and 30 below that
@@ -93,7 +93,7 @@ module _ {zs : List ℕ} {m : MtuDiscovery} (h : Search zs m) (u : min (startOf 
   pub search-ten : (sizes zs ≤ 10) × (length zs ≤ 30)
   search-ten =
       let k = search-sizes h in
-      let b = most-10 (startOf h .config .change) (widthOf (startOf h)) within-300 in
+      let b = most-10 (startOf h .config .change) (widthOf (startOf h)) (going Any Any h (free h) .fit .some) within-300 in
       (omega (arith, k .1 .0), omega (arith, k .0))
 
 -- whatever the bounds: one search sends at most 60 probes, of at most 20 sizes, each at most three times
