@@ -147,6 +147,7 @@ module _ (current peer top change : ℕ) (fit : Fit current peer change) where
         let b = ap (λ (v : ℕ). sizesMost change v) e ∙ most-some change (up w) (omega arith) in
         record { tried = r .tried; state = r .state; steps = r .steps; many = omega (arith, r .many, new, a, b) }
 
+  -- up to the upper bound, by halving the distance to it
   climb : (f : ℕ) (zs : List ℕ) (s : SearchState) → Won zs s → change ≤ s .upper - s .last → s .upper - s .last ≤ f → Tried (sizes zs + sizesMost change (s .upper - s .last))
   unfolding acked
   climb zero zs s k h l = absurd (omega (arith, fit .some))

@@ -14,8 +14,7 @@ use Rattle.mtud.specs.declared.PeerMax.the-variants.{Unknown, Known}
 use Rattle.mtud.specs.declared.MtuDiscovery.{MtuDiscovery}
 use Rattle.mtud.specs.declared.Done.{Done}
 use Rattle.mtud.specs.Discovery.{opened, startedWith, started}
-use Rattle.mtud_history.specs.Bounds.{Due}
-use Rattle.mtud_history.specs.Told.{peerOf}
+use Rattle.mtud_history.specs.Bounds.{peerOf, Due}
 use Rattle.mtud_history.proofs.Cases.{started-by}
 use Rattle.mtud_history.proofs.Calls.{New}
 use Rattle.mtud_history.proofs.History.{begun}

@@ -13,7 +13,7 @@ use Rattle.mtud.specs.declared.Done.{Done}
 use Rattle.mtud.specs.declared.Size.{Size}
 use Rattle.mtud.specs.declared.View.{View}
 use Rattle.mtud.specs.Discovery.{started, startedWith, sizeOf, viewed, shown, good}
-use Rattle.mtud_history.specs.Told.{peerOf}
+use Rattle.mtud_history.specs.Bounds.{peerOf}
 use Rattle.mtud_history.proofs.Calls.{New, Disabled, Reset, Poll, Peer, Acked, ProbeLost, Lost, Hole, CurrentMtu, Viewed}
 use Rattle.mtud_history.proofs.Kept.{Held, held-good, started-held, off-held, reset-held, polled-held, peer-held, acked-held, probe-lost-held, packet-lost-held, hole-held}
 

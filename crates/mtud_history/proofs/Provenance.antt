@@ -27,8 +27,9 @@ use Rattle.mtud.specs.declared.MtuDiscovery.{MtuDiscovery}
 use Rattle.mtud.specs.declared.Done.{Done}
 use Rattle.mtud.specs.declared.Size.{Size}
 use Rattle.mtud.specs.Discovery.{put, at, watching, opened, startedWith, started, switchedOff, resetTo, begunIn, turned, turnIn, byPhase, polled, peerReceived, isProbe, delivered, probeDelivered, byAcked, acked, byLost, probeLost, packetLost, fallen, holeAsked}
+use Rattle.mtud_history.specs.Bounds.{peerOf}
 use Rattle.mtud_history.specs.Told as told
-use Rattle.mtud_history.specs.Told.{Call, Said, peerOf, Facts, after, known, Source, before}
+use Rattle.mtud_history.specs.Told.{Call, Said, Facts, after, known, Source, before}
 use Rattle.mtud_history.proofs.Cases.{started-by, off-by, reset-by, polled-by, complete-by, rested-by, peer-by, acked-by, probe-by, lost-by, flying-by, packet-by, fallen-by, hole-by}
 use Rattle.mtud_history.proofs.Calls.{New, Disabled, Reset, Poll, Peer, Acked, ProbeLost, Lost, Hole, CurrentMtu}
 use Rattle.mtud_history.proofs.Searches.{not-restarted}

@@ -7,7 +7,7 @@ use mathlib.Core.List.{List, [], _∷_}
 use lib.Dec.{eqb}
 use Rattle.mtu_phase.specs.declared.MtuDiscoveryConfig.{MtuDiscoveryConfig}
 use Rattle.mtud.specs.declared.PeerMax.{PeerMax}
-use Rattle.mtud.specs.declared.PeerMax.the-variants.{Unknown, Known}
+use Rattle.mtud_history.specs.Bounds.{peerOf}
 
 -- what was called, with its arguments
 pub data Call : Type 0 where
@@ -26,11 +26,6 @@ pub record Said : Type 0 where
   pub call : Call
   pub answer : ℕ
   pub value : ℕ
-
--- the peer's maximum at the start: 65,527 where it is not known
-abbrev pub peerOf : PeerMax → ℕ
-peerOf Unknown = 65527
-peerOf (Known p) = p
 
 -- what the list comes to: the MTU, the peer's maximum, the minimum size, and the packet number and the size of the probe that was asked for last, 0 for none
 pub record Facts : Type 0 where
