@@ -1,5 +1,7 @@
 // Reads the ACK frame of RFC 9000, section 19.3 (01, ACK frame), written from the RFC: one pass finds the first fault in byte order
 // and writes nothing; only a frame that is whole, legal and fits is then put into the lent list. Its writer is `ack_write`.
+#![tactic(auto)]
+
 ghost use Rattle.std.specs.Prelude.{◌≡◌, ◌≤◌, ◌<◌, ◌^◌, ◌*◌, true, ◌++◌, reverse, length, drop};
 ghost use Rattle.range_list.specs.Ranges.{flat};
 ghost use Rattle.ack_frame.specs.Read.{int_at, int_sound, kind_at, kind_sound, step_at, step_sound, walk_of, walk_sound, legal, below, fields_at, head_of, head_sound, refusal, done, read_ack, taken_of};
@@ -8,7 +10,7 @@ ghost use Rattle.ack_frame.specs.Read.{int_at, int_sound, kind_at, kind_sound, s
 const ACK: u64 = 2;
 
 // What reading a frame finds: every value is 0 unless the answer is OK.
-#[derive(Drop)]
+#[derive(Clone, Copy)]
 pub struct Ack {
     pub answer: u8,
     // how many ranges stand in the list
@@ -22,7 +24,7 @@ pub struct Ack {
 }
 
 // An integer of a frame, and where its bytes end.
-#[derive(Drop)]
+#[derive(Clone, Copy)]
 pub enum Int {
     Is(u64, usize),
     Ends,
@@ -41,7 +43,7 @@ fn int_at(frame: &[u8], at: usize) -> Int
 }
 
 // The frame's type: that of an ACK frame, with the place of the fields behind it, or why it is none.
-#[derive(Drop)]
+#[derive(Clone, Copy)]
 pub enum Kind {
     Fields(usize),
     Other(u8),
@@ -65,7 +67,7 @@ fn kind_at(frame: &[u8]) -> Kind
 }
 
 // One pair of a gap and a length: the range below the last one, lo to hi without hi, and where its bytes end; or the first fault.
-#[derive(Drop)]
+#[derive(Clone, Copy)]
 pub enum Step {
     Range(usize, u64, u64),
     Refused(u8),
@@ -93,7 +95,7 @@ fn next_range(frame: &[u8], at: usize, low: u64) -> Step
 }
 
 // What a walk over the pairs finds: where they end, or why it stopped.
-#[derive(Drop)]
+#[derive(Clone, Copy)]
 pub enum Walk {
     Done(usize),
     Stopped(u8),
@@ -149,7 +151,7 @@ fn fill(frame: &[u8], start: usize, least: u64, count: usize, list: &mut [u64])
 }
 
 // The frame up to its pairs: its values, the smallest number of the first range, and where the pairs start; or the first fault.
-#[derive(Drop)]
+#[derive(Clone, Copy)]
 pub enum Head {
     Known {
         at: usize,

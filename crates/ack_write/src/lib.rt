@@ -1,5 +1,7 @@
 // Writes the ACK frame of RFC 9000, section 19.3 (01, ACK frame) of a range set and a delay, every integer in its shortest form.
 // The whole frame is measured first, so that too little space is known before a byte is written. Its reader is `ack_frame`.
+#![tactic(auto)]
+
 ghost use Rattle.std.specs.Prelude.{◌≡◌, true, reverse, ◌+◌, ◌*◌, ◌≤◌, ◌<◌, ◌^◌, length};
 ghost use Rattle.varint.specs.Varint.{encode, len_of};
 ghost use Rattle.range_list.specs.Ranges.{read, well_formed};
@@ -7,7 +9,7 @@ ghost use Rattle.ack_frame.specs.Grammar.{frame_of};
 ghost use Rattle.ack_write.specs.Write.{put, pairs_of, Ordered, head_bytes, refusal, done, write_ack};
 
 // What writing did: how many bytes it wrote, 0 unless the answer is OK.
-#[derive(Drop)]
+#[derive(Clone, Copy)]
 pub struct Written {
     pub answer: u8,
     pub len: usize,

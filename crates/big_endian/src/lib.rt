@@ -1,5 +1,7 @@
 // The bytes of a number, the most significant first, at the start of a buffer: so a varint (RFC 9000, section 16) and a packet number (17.1) are
 // written.
+#![tactic(auto)]
+
 ghost use Rattle.std.specs.Prelude.{◌≡◌, ◌≤◌, ◌++◌, length, drop};
 ghost use Rattle.big_endian.specs.Bytes.{bytes, put_bytes};
 

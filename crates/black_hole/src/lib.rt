@@ -1,6 +1,8 @@
 // Judges whether lost packets may show that the path's MTU fell: mtud.rs's BlackHoleDetector; 01, MTU search.
 // Packets lost with consecutive numbers are one burst. A burst is suspicious where a smaller MTU would explain it whole. Each call is defined for
 // every detector, well formed or not, so none refuses; the search over it asks `good` first, once a call.
+#![tactic(auto)]
+
 ghost use Rattle.std.specs.Prelude.{◌≡◌, cond};
 ghost use Prim.Native.Nat.{ℕ, ◌<◌, ◌≤◌, ◌+◌, ◌-◌};
 ghost use Rattle.black_hole.specs.BlackHole.{none, pushed, passed, retained, lower_of, least_of, kept, closed, suspicious, suspected, finished, fresh, probe_acked, delivered, follows, grown, begun, lost, detected, good_place, good_bursts, good};
@@ -20,21 +22,21 @@ const PLACES: usize = 4;
 const BLACK_HOLE_THRESHOLD: usize = 3;
 
 // The suspicious bursts: the smallest packet of each, in the first `count` places, oldest first.
-#[derive(Drop)]
+#[derive(Clone, Copy)]
 pub struct Bursts {
     pub sizes: [u16; 4],
     pub count: usize,
 }
 
 // The burst that is being gathered, if `has`: the latest number lost and the smallest packet.
-#[derive(Drop)]
+#[derive(Clone, Copy)]
 pub struct CurrentLossBurst {
     pub has: bool,
     pub latest: u64,
     pub smallest: u16,
 }
 
-#[derive(Drop)]
+#[derive(Clone, Copy)]
 pub struct BlackHoleDetector {
     // The bursts considered suspicious now.
     pub bursts: Bursts,
@@ -47,7 +49,7 @@ pub struct BlackHoleDetector {
     pub minimum: u16,
 }
 
-#[derive(Drop)]
+#[derive(Clone, Copy)]
 pub struct Detected {
     pub found: bool,
     pub detector: BlackHoleDetector,

@@ -1,5 +1,7 @@
 // Sums and differences of u64 that stop at a bound instead of wrapping, and the smaller and the greater of two.
 // The Rust's saturating_sub, min, max and saturating_add, the last with the top as an argument.
+#![tactic(auto)]
+
 ghost use Rattle.std.specs.Prelude.{◌≡◌, ◌+◌, ◌-◌, min, max};
 
 // The difference, or 0 where the second is the greater.

@@ -1,9 +1,11 @@
 // Reads lines of hexadecimal digits on standard input, each a buffer with an ACK frame at its start, and prints what each frame says, or why it
 // is refused. A line with no word, and one that starts with #, is passed over.
+#![tactic(auto)]
+
 use lines::Feed;
 
 // What is kept from line to line, but for the arrays.
-#[derive(Drop)]
+#[derive(Clone, Copy)]
 pub struct Kept {
     pub feed: Feed,
     pub at: usize,

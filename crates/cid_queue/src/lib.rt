@@ -1,5 +1,7 @@
 // The peer's connection ids (quinn-proto's cid_queue.rs; RFC 9000 sections 5.1 and 19.15; 01, Connection-id queue).
 // A queue holds ids under their sequence numbers, five numbers from the active one on; the active id has the least number held.
+#![tactic(auto)]
+
 ghost use Rattle.std.specs.Prelude.{◌≡◌, ◌<◌, ◌+◌, ◌-◌, ◌^◌, min, max};
 ghost use Rattle.cid_queue.specs.Queue.{initial, issued, usable, refused, moved, takes, successor, accepted, inserted, switched, made, updated};
 ghost use Rattle.cid_queue.specs.Queue.{no_entry, shown, active_of, active_seq, nth, entry_of, reset_of};
@@ -9,20 +11,20 @@ use cid_ring::{NUMBERS, PLACES, Ring, Slot};
 use constant_time::eq16;
 
 // The ids received and not yet retired; there may be gaps between their numbers.
-#[derive(Drop)]
+#[derive(Clone, Copy)]
 pub struct CidQueue {
     ring: Ring,
 }
 
 // A queue, or an answer that refuses one.
-#[derive(Drop)]
+#[derive(Clone, Copy)]
 pub struct Made {
     pub answer: u8,
     pub queue: CidQueue,
 }
 
 // The queue after a step, the numbers start..end to be retired (none: 0..0), and the token of the new active id where there is one.
-#[derive(Drop)]
+#[derive(Clone, Copy)]
 pub struct Retirement {
     pub answer: u8,
     pub queue: CidQueue,
@@ -32,14 +34,14 @@ pub struct Retirement {
 }
 
 // Whether a token is the active id's.
-#[derive(Drop)]
+#[derive(Clone, Copy)]
 pub struct Reset {
     pub answer: u8,
     pub reset: bool,
 }
 
 // An id held: its number, its length and bytes, and its token if `known`.
-#[derive(Drop)]
+#[derive(Clone, Copy)]
 pub struct Entry {
     pub answer: u8,
     pub seq: u64,
@@ -50,7 +52,7 @@ pub struct Entry {
 }
 
 // The number of the active id.
-#[derive(Drop)]
+#[derive(Clone, Copy)]
 pub struct Number {
     pub answer: u8,
     pub seq: u64,

@@ -1,11 +1,13 @@
 // Five places for the peer's connection ids (the ring of quinn-proto's cid_queue.rs; RFC 9000 section 5.1; 01, Connection-id queue).
 // The id of the sequence number n stands in the place n % 5, for the five numbers from the active one on; so no place is named
 // outside this crate, and a ring is read and written by number.
+#![tactic(auto)]
+
 ghost use Rattle.std.specs.Prelude.{◌≡◌, ◌<◌, ◌+◌, ◌-◌, ◌^◌, min};
 ghost use Rattle.cid_ring.specs.Cids.{vacant, under, held, first, retired, put, fit, fits, sound, empty};
 
 // An id with its reset token, or nothing.
-#[derive(Drop)]
+#[derive(Clone, Copy)]
 pub struct Slot {
     // How many bytes of `id` count; 0: there is no id. The other bytes are as they were given.
     pub len: usize,
@@ -16,7 +18,7 @@ pub struct Slot {
 }
 
 // The ids received and not yet retired; there may be gaps between their numbers.
-#[derive(Drop)]
+#[derive(Clone, Copy)]
 pub struct Ring {
     // The slot of the number n stands at n % 5.
     pub slots: [Slot; 5],

@@ -1,5 +1,7 @@
 // The codes of the events: 16 a module, in the order in which the grammar has its names (docs/EVENTS.md). The definitions use the same names.
 
+#![tactic(auto)]
+
 // A line that is no event: no such name, or words that do not fit it.
 pub const UNKNOWN: u8 = 0;
 

@@ -1,10 +1,12 @@
 // Whether two byte strings agree, in time that their lengths alone decide: for reset tokens (01, Token comparison; constant_time.rs).
 // Every byte is visited whatever was found before it, and no test is made on a byte before the last is visited.
+#![tactic(auto)]
+
 ghost use Rattle.std.specs.Prelude.{◌≡◌, length};
 ghost use Rattle.constant_time.specs.Agree.{agree, differs};
 
 // What one pass over two strings of one length finds.
-#[derive(Drop)]
+#[derive(Clone, Copy)]
 pub struct Difference {
     // every bit in which two bytes at one place differ
     pub bits: u8,

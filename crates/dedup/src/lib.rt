@@ -1,5 +1,7 @@
 // Which packet numbers were received already, so that a packet is not processed twice (01, Duplicate window; spaces.rs, Dedup).
 // The window is the highest number and the 128 below it; what is older counts as seen.
+#![tactic(auto)]
+
 ghost use Rattle.std.specs.Prelude.{◌≡◌, ◌<◌, ◌≤◌, ◌+◌, ◌^◌};
 ghost use Rattle.dedup.specs.Dedup.{place, fresh, with_number, holding, told, inserted};
 
@@ -8,7 +10,7 @@ use answers::{OK, RANGE};
 // Packet numbers are below this (RFC 9000, section 17.1).
 const LIMIT: u64 = 1 << 62;
 
-#[derive(Drop)]
+#[derive(Clone, Copy)]
 pub struct Dedup {
     // The 64 numbers below the highest: bit p is `next - 2 - p`.
     low: u64,
@@ -18,7 +20,7 @@ pub struct Dedup {
     next: u64,
 }
 
-#[derive(Drop)]
+#[derive(Clone, Copy)]
 pub struct Inserted {
     pub answer: u8,
     // Whether the packet might be a duplicate.

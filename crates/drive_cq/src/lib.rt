@@ -1,4 +1,6 @@
 // The events of the connection-id queue: cq (docs/EVENTS.md). An event is its library's call.
+#![tactic(auto)]
+
 ghost use Rattle.std.specs.Prelude.{◌≡◌, ◌-◌};
 ghost use Rattle.drive_cq.specs.Step.{part_of, over, id_of, token_of, give_of, made_of, begun_of, moved_of, refused_of, shown_of, begin_of, new_of, frame_of, reset_of, call_of, step_of};
 
@@ -6,14 +8,14 @@ use cid_queue::{CidQueue, Made, Retirement};
 use said::Said;
 
 // There is no queue before the first `new`.
-#[derive(Drop)]
+#[derive(Clone, Copy)]
 pub struct Kept {
     pub has: bool,
     pub queue: CidQueue,
 }
 
 // What an event gave. Where `retired`, said.a..said.b and the token are values; where `named`, said.a and the id.
-#[derive(Drop)]
+#[derive(Clone, Copy)]
 pub struct Gave {
     pub said: Said,
     pub retired: bool,

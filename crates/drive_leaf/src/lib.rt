@@ -1,4 +1,6 @@
 // The events of the modules without a state: ct, vi, pn and af (docs/EVENTS.md). An event is its library's call.
+#![tactic(auto)]
+
 ghost use Rattle.std.specs.Prelude.{◌≡◌};
 ghost use Rattle.drive_leaf.specs.Step.{plainly, compare_of, read_of, done, write_of, number_of, expanded_of, frame_in, frame_to, left, step_of};
 ghost use Rattle.answers.specs.Answers.{OK};
@@ -7,7 +9,7 @@ use said::Said;
 use varint::{Got, Wrote};
 
 // What an event gave: the answer with its numbers, how many bytes stand in the lent scratch, and how many ranges in the lent list.
-#[derive(Drop)]
+#[derive(Clone, Copy)]
 pub struct Gave {
     pub said: Said,
     pub size: usize,

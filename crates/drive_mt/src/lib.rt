@@ -1,4 +1,6 @@
 // The events of the MTU search: mt (docs/EVENTS.md). An event is its library's call.
+#![tactic(auto)]
+
 ghost use Rattle.std.specs.Prelude.{◌≡◌};
 ghost use Rattle.drive_mt.specs.Step.{size_of, peer_of, quiet_of, valued_of, begun_of, begin_of, start_of, new_of, call_of, step_of};
 
@@ -7,13 +9,13 @@ use mtud::{Done, MtuDiscovery, PeerMax};
 use said::Said;
 
 // There is no search before the first `new` or `off`.
-#[derive(Drop)]
+#[derive(Clone, Copy)]
 pub struct Kept {
     pub has: bool,
     pub mtud: MtuDiscovery,
 }
 
-#[derive(Drop)]
+#[derive(Clone, Copy)]
 pub struct Gave {
     pub said: Said,
     pub kept: Kept,

@@ -1,5 +1,7 @@
 // The range set of one connection: its list lies at the start of the lent memory, with as many places as the last rs.cap gave it (docs/EVENTS.md). An
 // event is its step of drive_sets on that part; rs.cap is the only one that has no call in the library.
+#![tactic(auto)]
+
 ghost use Rattle.std.specs.Prelude.{◌≡◌, ◌≤◌, length};
 ghost use Rattle.drive_rs.specs.Step.{begun, words_of, cap_of, renew_of, change_of, step_of, both};
 
@@ -9,7 +11,7 @@ use drive_sets::Did;
 const PLACES: usize = 256;
 
 // What the last event gave, and how many places the set and its reported parts have.
-#[derive(Drop)]
+#[derive(Clone, Copy)]
 pub struct Ranges {
     pub did: Did,
     pub places: usize,

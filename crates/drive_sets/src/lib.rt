@@ -1,4 +1,6 @@
 // The events of the duplicate window, the range set and the recorder of acknowledgements: dd, rs and pa (docs/EVENTS.md). An event is its library's call.
+#![tactic(auto)]
+
 ghost use Rattle.std.specs.Prelude.{◌≡◌};
 ghost use Rattle.drive_sets.specs.Sets.{began, note_of, plainly, valued, none, refused_of, counted, told_of, done, record_of, ask_of, edit_of, both, set_of, filled, renew_of};
 
@@ -6,7 +8,7 @@ use dedup::Dedup;
 use said::Said;
 
 // What an event of the window gave.
-#[derive(Drop)]
+#[derive(Clone, Copy)]
 pub struct Noted {
     pub said: Said,
     pub dedup: Dedup,
@@ -38,7 +40,7 @@ pub fn note(code: u8, n: u64, d: Dedup) -> Noted
 }
 
 // What an event of a list of ranges gave: the answer, the count of ranges after it, and of reported parts.
-#[derive(Drop)]
+#[derive(Clone, Copy)]
 pub struct Did {
     pub said: Said,
     pub count: usize,

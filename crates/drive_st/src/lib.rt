@@ -1,5 +1,7 @@
 // The events of streams and bytes: st (docs/EVENTS.md). An event is its library's call, with the place of a stream that is over given back at once.
 // The start of a connection is in st_new, the calls of the events that name a stream in st_call.
+#![tactic(auto)]
+
 ghost use Rattle.std.specs.Prelude.{◌≡◌};
 ghost use Rattle.stream_places.specs.Places.{want_after, open_after, reject_after};
 ghost use Rattle.drive_st.specs.Step.{done, gave, stayed, no_books, begun, fresh_of, new_of, settled_of, one_of, opened_by, changed_by, flow_of, flowed_by, whole_of, step_of};
@@ -8,7 +10,7 @@ use said::Said;
 use stream_conn::{Conn, Done};
 
 // There are no books before the first `new`.
-#[derive(Drop)]
+#[derive(Clone, Copy)]
 pub struct Kept {
     pub has: bool,
     pub conn: Conn,
@@ -16,7 +18,7 @@ pub struct Kept {
 }
 
 // What an event gave, and the stream that it named, if any.
-#[derive(Drop)]
+#[derive(Clone, Copy)]
 pub struct Gave {
     pub said: Said,
     pub about: bool,

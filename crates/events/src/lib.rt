@@ -1,5 +1,7 @@
 // What event a line of a file is: its code, and its words as numbers and bytes, put into lent memory. Which events there are is said by one short
 // text a module, a name and then the kinds of its words, so that the whole grammar stands in one place.
+#![tactic(auto)]
+
 ghost use Rattle.std.specs.Prelude.{◌≡◌, ◌+◌, ◌<◌, ◌≤◌, length};
 ghost use Rattle.words.specs.Words.{both};
 ghost use Rattle.events.specs.Modules.{base_of, among};
@@ -29,7 +31,7 @@ const MT: u64 = 0x6d742e;
 const ST: u64 = 0x73742e;
 
 // An event: its code; how many numbers it has; and of its byte strings, which lie one behind the other, where the first ends and where all end.
-#[derive(Drop)]
+#[derive(Clone, Copy)]
 pub struct Event {
     pub code: u8,
     pub count: usize,
@@ -67,7 +69,7 @@ fn none(code: u8) -> Event
 }
 
 // Where a name stands in a grammar, counted from 0, and its shape; 16 where it is not there.
-#[derive(Drop)]
+#[derive(Clone, Copy)]
 pub struct Found {
     pub index: u8,
     pub start: usize,

@@ -1,6 +1,8 @@
 // The state of one connection, and what an event does to it: `step` is its module's step on its part of the state, and what is no event leaves all as
 // it was (docs/EVENTS.md). What is small is one record by value, whose parts are those of ledger_lists and ledger_peers and what the last event of a
 // module without a state gave; lists and tables lie in lent arrays.
+#![tactic(auto)]
+
 ghost use Rattle.std.specs.Prelude.{◌≡◌};
 ghost use Rattle.ledger.specs.Ledger.{begun, leafed, leaf_of, stepped, step_of};
 
@@ -10,7 +12,7 @@ use ledger_lists::Lists;
 use ledger_peers::Peers;
 
 // What is kept from event to event. `code` is the last event's.
-#[derive(Drop)]
+#[derive(Clone, Copy)]
 pub struct State {
     pub code: u8,
     pub leaf: Leaf,

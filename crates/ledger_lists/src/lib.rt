@@ -1,5 +1,7 @@
 // The part of a connection's state that keeps numbers: the duplicate window, the range set and the recorder of acknowledgements. Each keeps what its last
 // event gave; the lists lie in the lent memory (docs/EVENTS.md).
+#![tactic(auto)]
+
 ghost use Rattle.std.specs.Prelude.{◌≡◌, ◌≤◌, length};
 ghost use Rattle.drive_sets.specs.Sets as sets;
 ghost use Rattle.ledger_lists.specs.Step.{begun, acks_of, listed, step_of};
@@ -13,7 +15,7 @@ pub const ACKS: usize = 512;
 pub const TABLE: usize = 640;
 
 // What is kept from event to event.
-#[derive(Drop)]
+#[derive(Clone, Copy)]
 pub struct Lists {
     pub window: Noted,
     pub ranges: Ranges,

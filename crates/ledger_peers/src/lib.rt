@@ -1,5 +1,7 @@
 // The part of a connection's state that follows the peer: the connection ids, the MTU search and the books of the streams. Each keeps what its last event
 // gave; the table of streams lies in the lent memory (docs/EVENTS.md).
+#![tactic(auto)]
+
 ghost use Rattle.std.specs.Prelude.{◌≡◌, ◌≤◌, length};
 ghost use Rattle.drive_st.specs.Step as st;
 ghost use Rattle.ledger_peers.specs.Step.{begun, books_of, peered, step_of};
@@ -8,7 +10,7 @@ ghost use Rattle.ledger_peers.specs.Step.{begun, books_of, peered, step_of};
 pub const MEMORY: usize = 2432;
 
 // What is kept from event to event.
-#[derive(Drop)]
+#[derive(Clone, Copy)]
 pub struct Peers {
     pub cids: drive_cq::Gave,
     pub mtud: drive_mt::Gave,

@@ -1,5 +1,7 @@
 // The lines of a file of any size, one at a time, through a buffer of 65,536 bytes. A line without its line end, the last, is one like any
 // other; one of more than 65,000 bytes is passed over and said to be too long.
+#![tactic(auto)]
+
 ghost use Rattle.std.specs.Prelude.{◌≡◌, ◌+◌, ◌-◌, ◌≤◌, length, take};
 ghost use Rattle.lines.specs.Lines.{Held, Read, Next, begun, fitted, part, line_of, end_from, one_more, passed_of, found_of, long_of, none_of, last_of, down};
 
@@ -16,7 +18,7 @@ pub const END: u8 = 3;
 pub const FAILED: u8 = 4;
 
 // Where a reader stands. The line is start..end of the buffer and from..to is held for later. `number` counts the lines from 1.
-#[derive(Drop)]
+#[derive(Clone, Copy)]
 pub struct Feed {
     pub kind: u8,
     pub start: usize,
@@ -76,7 +78,7 @@ fn move_down(buf: &mut [u8], from: usize, to: usize)
     }
 }
 
-#[derive(Drop)]
+#[derive(Clone, Copy)]
 struct Got {
     n: usize,
     failed: bool,

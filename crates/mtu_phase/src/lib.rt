@@ -1,5 +1,7 @@
 // The phases of the search and its settings: mtud.rs's Phase and MtuDiscoveryConfig; 01, MTU search.
 // What each part of a record says of itself, for the record that holds them; none of it refuses.
+#![tactic(auto)]
+
 ghost use Rattle.std.specs.Prelude.{◌≡◌, ℕ, ◌<◌, ◌≤◌};
 ghost use Rattle.mtu_phase.specs.Phase.{size_b, packet_b, no_config, good_config, good_phase, restarted, searching_b, off_b, flying_of};
 
@@ -14,7 +16,7 @@ const LEAST: u16 = 1200;
 
 const MOST: u16 = 65527;
 
-#[derive(Drop)]
+#[derive(Clone, Copy)]
 pub enum Phase {
     // The search is switched off.
     Off,
@@ -25,7 +27,7 @@ pub enum Phase {
     Complete(u64),
 }
 
-#[derive(Drop)]
+#[derive(Clone, Copy)]
 pub struct MtuDiscoveryConfig {
     // The largest size to try.
     pub upper: u16,
@@ -38,7 +40,7 @@ pub struct MtuDiscoveryConfig {
 }
 
 // Whether a probe is in flight, and its packet number.
-#[derive(Drop)]
+#[derive(Clone, Copy)]
 pub struct InFlight {
     pub answer: u8,
     pub flying: bool,

@@ -1,5 +1,7 @@
 // One search for a larger MTU: mtud.rs's SearchState; 01, MTU search; RFC 8899, section 5.3.
 // Each call is defined for every state, well formed or not, so none refuses; the record that holds the search asks `good` first, once a call.
+#![tactic(auto)]
+
 ghost use Rattle.std.specs.Prelude.{◌≡◌};
 ghost use Prim.Native.Nat.{ℕ, ◌<◌, ◌≤◌, ◌+◌, ◌-◌};
 ghost use Rattle.mtu_search.specs.Search.{begun, known, good, chosen, onward, turn, acked, missed};
@@ -14,7 +16,7 @@ const LEAST: u16 = 1200;
 const MAX_PROBE_RETRANSMITS: u8 = 3;
 
 // A search that runs.
-#[derive(Drop)]
+#[derive(Clone, Copy)]
 pub struct SearchState {
     // The bounds: `lower` is known to pass, nothing above `upper` is tried. They are moved when the next size is chosen.
     pub lower: u16,
@@ -29,7 +31,7 @@ pub struct SearchState {
 }
 
 // What a turn of the search comes to: a probe is in flight, the state with the probe that is to be sent now, or the end of the search.
-#[derive(Drop)]
+#[derive(Clone, Copy)]
 pub enum Turn {
     Waiting,
     Probing(SearchState),

@@ -1,6 +1,8 @@
 // The search for the largest packet that the path carries: mtud.rs (MtuDiscovery, EnabledMtuDiscovery); RFC 8899; 01, MTU search.
 // A record by value: each call takes it and hands it back, as it was where the call refuses. Every call checks the whole record first.
 // Sizes are UDP payload sizes, times microseconds.
+#![tactic(auto)]
+
 ghost use Rattle.std.specs.Prelude.{◌≡◌};
 ghost use Prim.Native.Nat.{ℕ, ◌<◌, ◌≤◌, ◌+◌, ◌-◌};
 ghost use Rattle.mtud.specs.Discovery.{good, put, blank, refused, done, opened, started_with, started, switched_off, reset_to, rested, turned, by_phase, polled, capped, peer_received, is_probe, delivered, probe_delivered, by_acked, acked, by_lost, probe_lost, late, packet_lost, fallen, by_hole, hole_asked, size_of, in_flight, viewed};
@@ -19,13 +21,13 @@ const LEAST: u16 = 1200;
 const MOST: u16 = 65527;
 
 // The peer's maximum, if it was received.
-#[derive(Drop)]
+#[derive(Clone, Copy)]
 pub enum PeerMax {
     Unknown,
     Known(u16),
 }
 
-#[derive(Drop)]
+#[derive(Clone, Copy)]
 pub struct MtuDiscovery {
     // The MTU as far as it is known.
     current: u16,
@@ -39,21 +41,21 @@ pub struct MtuDiscovery {
 
 // What a call hands back. `value` is the size of the probe to send, 0 for none due (poll_transmit); 1 if the packet was the probe (on_acked); 1 if there
 // is a black hole (black_hole_detected); else 0.
-#[derive(Drop)]
+#[derive(Clone, Copy)]
 pub struct Done {
     pub answer: u8,
     pub value: u16,
     pub mtud: MtuDiscovery,
 }
 
-#[derive(Drop)]
+#[derive(Clone, Copy)]
 pub struct Size {
     pub answer: u8,
     pub size: u16,
 }
 
 // All that the record says, to be shown. `told` is whether the peer's maximum was received.
-#[derive(Drop)]
+#[derive(Clone, Copy)]
 pub struct View {
     pub answer: u8,
     pub mtu: u16,

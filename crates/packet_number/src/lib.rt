@@ -1,12 +1,14 @@
 // Packet numbers in a packet's header: 01, "Packet numbers"; RFC 9000, section 17.1 and appendix A.3; quinn-proto's PacketNumber.
 // A sender writes the low bytes alone, as few as the text of 17.1 allows; a receiver finds the number again from the largest one it has.
+#![tactic(auto)]
+
 ghost use Rattle.std.specs.Prelude.{◌≡◌, true, ◌≤◌, ◌<◌, ◌^◌, length};
 ghost use Rattle.packet_number.specs.PacketNumber.{distance, writable, fewest, window, digits, choice, refused, new_of, done, encode_of, unread, expand_of};
 
 use answers::{OK, RANGE, ROOM, SHORT};
 
 // What goes into the header.
-#[derive(Drop)]
+#[derive(Clone, Copy)]
 pub struct Encoded {
     // OK, RANGE, or from `encode` ROOM
     pub answer: u8,
@@ -17,7 +19,7 @@ pub struct Encoded {
 }
 
 // What a header's bytes mean.
-#[derive(Drop)]
+#[derive(Clone, Copy)]
 pub struct Expanded {
     // OK, RANGE or SHORT
     pub answer: u8,

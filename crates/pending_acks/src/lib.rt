@@ -1,5 +1,7 @@
 // The packet numbers received and to be acknowledged (01, Ack recording; spaces.rs, PendingAcks): a range set of at most 64 ranges on a lent list.
 // The set's rules are `range_set`'s. What is added here is the limit, at which the lowest range is dropped, and what that means for a history.
+#![tactic(auto)]
+
 ghost use Rattle.std.specs.Prelude.{◌≡◌};
 ghost use Rattle.pending_acks.specs.Acks.{left, insert_one, below, subtract_below};
 
@@ -11,7 +13,7 @@ pub const MAX_ACK_BLOCKS: usize = 64;
 // Packet numbers are below this (RFC 9000, section 17.1).
 const LIMIT: u64 = 1 << 62;
 
-#[derive(Drop)]
+#[derive(Clone, Copy)]
 pub struct Recorded {
     pub answer: u8,
     // How many ranges the set has now.
@@ -24,7 +26,7 @@ pub struct Recorded {
     pub end: u64,
 }
 
-#[derive(Drop)]
+#[derive(Clone, Copy)]
 pub struct Subtracted {
     pub answer: u8,
     // How many ranges the set has now.

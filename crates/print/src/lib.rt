@@ -1,12 +1,14 @@
 // Text put into a lent buffer: bytes as they are, a number in decimal, a range of numbers, a byte string in hexadecimal. What has
 // no room is refused with ROOM, and the buffer is then as it was. Nothing here writes a file.
+#![tactic(auto)]
+
 ghost use Rattle.std.specs.Prelude.{◌≡◌, ◌++◌, ◌+◌, ◌*◌, ◌-◌, ◌<◌, ◌≤◌, length, drop};
 ghost use Rattle.std.proofs.lemmas.List.Edits.{sets};
 ghost use Rattle.print.specs.Print.{glyph, decimal, hexed, put_at, done};
 ghost use Rattle.print.specs.Print.{range as Print·range};
 
 // Where the next text goes, after OK.
-#[derive(Drop)]
+#[derive(Clone, Copy)]
 pub struct Put {
     pub answer: u8,
     pub next: usize,

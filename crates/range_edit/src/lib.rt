@@ -1,5 +1,7 @@
 // One range put into a set, taken out of it, or put in with a report of what was there (01, Range set).
 // Inner functions: the list is in good form, and the range not empty. `range_set` tests that once a call, and is what others call.
+#![tactic(auto)]
+
 ghost use Rattle.std.specs.Prelude.{◌≡◌, true, ℕ, ◌+◌, ◌-◌, ◌*◌, ◌/◌, ◌^◌, ◌<◌, ◌≤◌, min, max, length};
 ghost use Rattle.range_list.specs.Ranges.{Range, read, flat, over, well_formed};
 ghost use Rattle.range_edit.specs.Edits.{below, grown, head_covers, cut, clipped, done, insert_into, remove_from, both, replace_in};
@@ -8,7 +10,7 @@ use answers::{FULL, OK};
 use range_list::{splice_none, splice_one, splice_two};
 
 // What a change of a set answers: the answer, how many ranges it has now, and whether it is another set.
-#[derive(Drop)]
+#[derive(Clone, Copy)]
 pub struct Changed {
     pub answer: u8,
     pub count: usize,
@@ -16,7 +18,7 @@ pub struct Changed {
 }
 
 // What a replace answers: the answer, how many ranges the set has now, and how many parts are reported.
-#[derive(Drop)]
+#[derive(Clone, Copy)]
 pub struct Replaced {
     pub answer: u8,
     pub count: usize,
@@ -39,7 +41,7 @@ pub fn passed(list: &[u64], count: usize, s: u64) -> usize
 }
 
 // A range that took up the ranges before number upto.
-#[derive(Drop)]
+#[derive(Clone, Copy)]
 pub struct Grown {
     pub upto: usize,
     pub lo: u64,
@@ -126,7 +128,7 @@ pub fn put(list: &mut [u64], count: usize, s: u64, e: u64) -> Changed
 }
 
 // The number of a range, and the end of the one before it.
-#[derive(Drop)]
+#[derive(Clone, Copy)]
 pub struct Cut {
     pub upto: usize,
     pub last: u64,

@@ -1,5 +1,7 @@
 // Ranges of numbers on lent memory: the flat list s0, e0, s1, e1, .. with a count of ranges (01, Range set).
 // The check of good form, and the moves that put ranges in the place of others. The set's operations are in `range_set`.
+#![tactic(auto)]
+
 ghost use Rattle.std.specs.Prelude.{◌≡◌, true, false, [], ◌++◌, ◌∷◌, ℕ, ◌+◌, ◌-◌, ◌*◌, ◌/◌, ◌<◌, ◌≤◌, length, get_or, take, drop, set};
 ghost use Rattle.std.proofs.Math.Seq.{paste};
 ghost use Rattle.range_list.specs.Ranges.{Range, read, flat, over, well_formed, splice};

@@ -5,6 +5,8 @@
 // the result is found, without writing. Then what makes the list shorter is done, each place written once from the front: ranges that lie in one of the
 // second set go, or gaps that one of it fills. From then on each range of the second set leaves no fewer ranges than before, so nothing past the result
 // is ever written.
+#![tactic(auto)]
+
 ghost use Rattle.std.specs.Prelude.{◌≡◌, true, false, cond, ℕ, ◌+◌, ◌-◌, ◌*◌, ◌/◌, ◌^◌, ◌<◌, ◌≤◌, length, get_or, set, ltb};
 ghost use Rattle.range_list.specs.Ranges.{read, flat, over, well_formed};
 ghost use Rattle.range_edit.specs.Edits.{done, covers};
@@ -149,7 +151,7 @@ fn spare(list: &mut [u64], count: usize, other: &[u64], n: usize) -> usize
 }
 
 // Where the next range goes, and the start of the one that is growing.
-#[derive(Drop)]
+#[derive(Clone, Copy)]
 struct Joint {
     k: usize,
     lo: u64,

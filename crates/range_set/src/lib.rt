@@ -1,6 +1,8 @@
 // A set of numbers as ranges on lent memory: quinn-proto's range_set (btree_range_set.rs, array_range_set.rs), 01, Range set.
 // The set is the flat list s0, e0, s1, e1, .. with a count of ranges, half-open, ascending, none empty, a number missing between neighbours.
 // Each call checks the list once (RANGE unless it is in good form), and leaves what lies past the resulting list as it was.
+#![tactic(auto)]
+
 ghost use Rattle.std.specs.Prelude.{◌≡◌, true, ℕ, ◌+◌, ◌^◌, ◌<◌, ◌≤◌, length, ltb};
 ghost use Rattle.range_list.specs.Ranges.{read, well_formed};
 ghost use Rattle.range_edit.specs.Edits.{insert, done, both};
@@ -12,28 +14,28 @@ use range_list::{LIMIT, splice_none, splice_one, well_formed};
 use range_many::merge;
 
 // Whether the set has a number.
-#[derive(Drop)]
+#[derive(Clone, Copy)]
 pub struct Held {
     pub answer: u8,
     pub held: bool,
 }
 
 // The least or the greatest number.
-#[derive(Drop)]
+#[derive(Clone, Copy)]
 pub struct Bound {
     pub answer: u8,
     pub value: u64,
 }
 
 // How many ranges the set has.
-#[derive(Drop)]
+#[derive(Clone, Copy)]
 pub struct Size {
     pub answer: u8,
     pub count: usize,
 }
 
 // The range start..end that was taken, and how many are left.
-#[derive(Drop)]
+#[derive(Clone, Copy)]
 pub struct Popped {
     pub answer: u8,
     pub count: usize,
@@ -42,7 +44,7 @@ pub struct Popped {
 }
 
 // How many ranges there are now, whether the number was new, and whether the range start..end was dropped to keep the limit.
-#[derive(Drop)]
+#[derive(Clone, Copy)]
 pub struct Capped {
     pub answer: u8,
     pub count: usize,

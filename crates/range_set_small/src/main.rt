@@ -1,5 +1,7 @@
 // Tries the range set on all small sets, at capacity, one under it and above, against sets of bits: insert, remove, add, subtract and replace.
 // A case is a set of six numbers, a range or a second set, and a number of places. Prints how many cases there were, and how many went wrong.
+#![tactic(auto)]
+
 ghost use Rattle.std.specs.Prelude.{◌≡◌, ℕ, ◌≤◌};
 
 use answers::{FULL, OK};
@@ -33,7 +35,7 @@ fn has(bits: u64, x: u64) -> bool {
 }
 
 // Where a walk over the bits stands: the next place of the flat list, and whether the last number was in the set.
-#[derive(Drop)]
+#[derive(Clone, Copy)]
 struct Walk {
     k: usize,
     inside: bool,
@@ -93,7 +95,7 @@ fn places(n: usize) -> usize
 }
 
 // What a call is tried on.
-#[derive(Drop)]
+#[derive(Clone, Copy)]
 struct Case {
     call: u64,
     set: u64,

@@ -1,4 +1,6 @@
 // Replays a file of events, one to a line, and prints a line for each (docs/EVENTS.md): `replay FILE`, or `replay` for standard input.
+#![tactic(auto)]
+
 use events::Event;
 use ledger::State;
 use lines::Feed;

@@ -1,9 +1,11 @@
 // An answer with its values, by value: what a step of a module gives, and what the programs print (docs/EVENTS.md).
+#![tactic(auto)]
+
 ghost use Rattle.std.specs.Prelude.{◌≡◌};
 ghost use Rattle.said.specs.Said.{said_plain, said_number, said_two, said_three, bit_of};
 
 // An answer with up to three numbers as values.
-#[derive(Drop)]
+#[derive(Clone, Copy)]
 pub struct Said {
     pub answer: u8,
     pub count: usize,

@@ -1,4 +1,6 @@
 // What the programs print: forms with their numbers, an answer's values, ranges, byte strings, and the line for what is no event (docs/EVENTS.md).
+#![tactic(auto)]
+
 ghost use Rattle.std.specs.Prelude.{◌≤◌, length};
 
 use said::Said;

@@ -1,4 +1,6 @@
 // The number and name of an answer, as the programs print them (docs/EVENTS.md).
+#![tactic(auto)]
+
 ghost use Rattle.std.specs.Prelude.{◌≤◌};
 
 // The row of an answer; what is no answer has the last.

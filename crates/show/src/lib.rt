@@ -1,4 +1,6 @@
 // The line of the last event of a connection's state (docs/EVENTS.md).
+#![tactic(auto)]
+
 use drive_sets::Did;
 use ledger::State;
 use ledger_lists::Lists;

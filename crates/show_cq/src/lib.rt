@@ -1,4 +1,6 @@
 // The line of an event of the connection-id queue: its answer, and the queue (docs/EVENTS.md).
+#![tactic(auto)]
+
 use cid_queue::{CidQueue, Entry};
 use drive_cq::Gave;
 

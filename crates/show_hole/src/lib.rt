@@ -1,4 +1,6 @@
 // What the line of an event of the MTU search says of its black-hole detector (docs/EVENTS.md).
+#![tactic(auto)]
+
 ghost use Rattle.std.specs.Prelude.{◌≤◌};
 
 use black_hole::{BlackHoleDetector, Bursts};

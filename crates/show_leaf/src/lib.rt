@@ -1,4 +1,6 @@
 // The line of an event of a module without a state: its answer, and the bytes or ranges that it gave (docs/EVENTS.md).
+#![tactic(auto)]
+
 use drive_leaf::Gave;
 
 // The answer, then the bytes or the ranges that the event has.

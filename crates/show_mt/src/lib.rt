@@ -1,4 +1,6 @@
 // The line of an event of the MTU search: its answer, and the search (docs/EVENTS.md).
+#![tactic(auto)]
+
 use drive_mt::{Gave, Kept};
 use mtu_phase::Phase;
 use mtu_search::SearchState;

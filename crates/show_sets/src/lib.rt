@@ -1,4 +1,6 @@
 // The line of an event of the duplicate window, the range set or the recorder: its answer, and the state after it (docs/EVENTS.md).
+#![tactic(auto)]
+
 use drive_sets::{Did, Noted};
 
 // The window's line.

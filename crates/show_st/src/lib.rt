@@ -1,4 +1,6 @@
 // The line of an event of streams and bytes: its answer, and the books (docs/EVENTS.md).
+#![tactic(auto)]
+
 ghost use Rattle.std.specs.Prelude.{◌≤◌};
 
 use drive_st::Gave;

@@ -1,4 +1,6 @@
 // The events of streams and bytes that name a stream (docs/EVENTS.md): the call of each, and the values that each event of a connection shows.
+#![tactic(auto)]
+
 ghost use Rattle.std.specs.Prelude.{◌≡◌};
 ghost use Rattle.streams.specs.Calls.{after};
 ghost use Rattle.st_call.specs.Call.{data_of, call_of, values_of};

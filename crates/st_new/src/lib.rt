@@ -1,4 +1,6 @@
 // st.new (docs/EVENTS.md): whether a connection can start with so many streams, and the grant of those.
+#![tactic(auto)]
+
 ghost use Rattle.std.specs.Prelude.{◌≡◌};
 ghost use Rattle.stream_places.specs.Places.{grown};
 ghost use Rattle.st_new.specs.New.{startable, start_of};

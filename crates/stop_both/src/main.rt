@@ -1,6 +1,8 @@
 // Both forms of `stop` on the same events (01, Forms named): on words (`streams::stop`) and on a slice of records
 // (`stop_table::stop`), each with its own connection and table. A line an event: answer, value and credit of the one and of the
 // other, and whether what they handed back and left is the same. That it always is, `stop_table` proves of every table.
+#![tactic(auto)]
+
 ghost use Rattle.std.specs.Prelude.{◌≡◌};
 ghost use Rattle.stop_table.specs.Slice.{on_slice, stop_on};
 
@@ -8,20 +10,20 @@ use stream_conn::{Conn, Counts, Done};
 use stream_record::Stream;
 
 // A table of four places.
-#[derive(Drop)]
+#[derive(Clone, Copy)]
 pub struct Records {
     pub table: [Stream; 4],
 }
 
 // What `stop` hands back, and the table afterwards.
-#[derive(Drop)]
+#[derive(Clone, Copy)]
 pub struct Stopped {
     pub done: Done,
     pub table: [Stream; 4],
 }
 
 // Both connections with their tables.
-#[derive(Drop)]
+#[derive(Clone, Copy)]
 struct Both {
     conn: Conn,
     words: [u64; 28],

@@ -1,6 +1,8 @@
 // `stop` on a lent slice of records, `table: &mut [Stream]` (01, Forms named and Streams and bytes): the same promise as
 // `streams::stop`, which works on lent words. Two functions touch the slice: `judge` passes over it once, `stop` writes one
 // record. What they do with a record is by value: one record joins what is known (`next`), and the pass comes to a verdict.
+#![tactic(auto)]
+
 ghost use Rattle.std.specs.Prelude.{◌≡◌, length, set};
 ghost use Rattle.stream_record.specs.Record.{none};
 ghost use Rattle.stop_table.specs.Slice.{on_slice, stop_on};
@@ -18,7 +20,7 @@ const TOP: u64 = 1 << 62;
 const PLACES: usize = 256;
 
 // What is known of a table after some of its records.
-#[derive(Drop)]
+#[derive(Clone, Copy)]
 pub struct Pass {
     // Places lent, and how many of them are looked at: none where the count can't be right.
     pub len: usize,
@@ -38,7 +40,7 @@ pub struct Pass {
 }
 
 // What a call comes to: `stream` goes to place `at`, and `done` is handed back. Where nothing is to be written there is no such place.
-#[derive(Drop)]
+#[derive(Clone, Copy)]
 pub struct Verdict {
     pub at: usize,
     pub stream: Stream,

@@ -1,5 +1,7 @@
 // The connection's own books, by value: who may send, counts of streams a direction, bytes charged, granted and owed
 // (01, Streams and bytes; RFC 9000 sections 2.1, 4.1 and 4.6; streams/state.rs), and the calls that need no table.
+#![tactic(auto)]
+
 ghost use Rattle.std.specs.Prelude.{◌≡◌, ℕ, ◌+◌, ◌-◌, ◌*◌, ◌/◌, ◌%◌, max, cond, ltb};
 ghost use Rattle.stream_conn.specs.Books.{counts_of, with_bi, with_uni, with_dir, admitted, good_counts, good_conn, paid, used_to, raised, windowed, given, alike, released, refused_done, fresh_conn, new_done, credit_done, window_done, allowed, max_done};
 
@@ -15,7 +17,7 @@ const MOST: u64 = 4611686018427387903;
 const COUNTS: u64 = 1 << 60;
 
 // Counters of one direction.
-#[derive(Drop)]
+#[derive(Clone, Copy)]
 pub struct Counts {
     // Ours: the next index to open, and how many the peer allows.
     pub next: u64,
@@ -28,7 +30,7 @@ pub struct Counts {
 }
 
 // The connection record.
-#[derive(Drop)]
+#[derive(Clone, Copy)]
 pub struct Conn {
     // Our side: 0 client, 1 server.
     pub side: u64,
@@ -48,7 +50,7 @@ pub struct Conn {
 }
 
 // What a call hands back: `free` says that the stream's place can be given back.
-#[derive(Drop)]
+#[derive(Clone, Copy)]
 pub struct Done {
     pub answer: u8,
     pub value: u64,
@@ -59,7 +61,7 @@ pub struct Done {
 }
 
 // The counts with one stream of the peer less, or the next one granted.
-#[derive(Drop)]
+#[derive(Clone, Copy)]
 pub struct Given {
     pub answer: u8,
     pub again: bool,
@@ -67,7 +69,7 @@ pub struct Given {
 }
 
 // The connection with one stream less; where `again`, the stream `id` is granted for it.
-#[derive(Drop)]
+#[derive(Clone, Copy)]
 pub struct Release {
     pub answer: u8,
     pub again: bool,

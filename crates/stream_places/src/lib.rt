@@ -1,6 +1,8 @@
 // The calls by which places of the table come and go: more of the peer's streams granted, one of ours opened, a place given
 // back, 0-RTT rejected (01, Streams and bytes; RFC 9000 sections 2.1 and 4.6; streams/state.rs). Each checks the connection
 // record and the whole table first; a refusal leaves both as they were.
+#![tactic(auto)]
+
 ghost use Rattle.std.specs.Prelude.{◌≡◌, ℕ, ◌+◌, ◌*◌, ◌<◌, ◌≤◌, length};
 ghost use Rattle.stream_places.specs.Places.{grown, changed, freed, free_after, grown_by, granted, grant_after, want_after, opened, open_after, unopened, rejected_conn, reject_after};
 
@@ -13,7 +15,7 @@ use stream_table::Entry;
 const COUNTS: u64 = 1 << 60;
 
 // What a call that moves places hands back.
-#[derive(Drop)]
+#[derive(Clone, Copy)]
 pub struct Changed {
     pub answer: u8,
     pub value: u64,

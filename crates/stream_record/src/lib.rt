@@ -1,5 +1,7 @@
 // One stream of the receiving side, by value: its record and what each event does to it (01, Streams and bytes;
 // RFC 9000 sections 3.2, 4.1 and 4.5; recv.rs). No function here knows the connection or the table.
+#![tactic(auto)]
+
 ghost use Rattle.std.specs.Prelude.{◌≡◌};
 ghost use Rattle.stream_record.specs.Record.{fresh, same, moved, closing, with_rec, kept, took, cut, was_reset, halted, read_on, seen_by, announced, sent_done};
 
@@ -23,7 +25,7 @@ pub const RESET: u64 = 3;
 pub const STOPPED: u64 = 4;
 
 // The record of one stream.
-#[derive(Drop)]
+#[derive(Clone, Copy)]
 pub struct Stream {
     // The stream's id: bit 0 the initiator, bit 1 the direction (RFC 9000 section 2.1).
     pub id: u64,
@@ -42,7 +44,7 @@ pub struct Stream {
 }
 
 // What an event does to one stream: `shut` is the end that goes to the closed total.
-#[derive(Drop)]
+#[derive(Clone, Copy)]
 pub struct Step {
     pub moved: bool,
     pub answer: u8,

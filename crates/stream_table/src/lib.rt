@@ -1,5 +1,7 @@
 // The table of streams: records of seven words, sorted by id, in one lent slice with a count (01, Streams and bytes).
 // One pass checks all of it; a place is found, written, put in, taken out, and our own are stripped where 0-RTT is rejected.
+#![tactic(auto)]
+
 ghost use Rattle.std.specs.Prelude.{◌≡◌, ℕ, ◌+◌, ◌*◌, ◌-◌, ◌%◌, ◌<◌, ◌≤◌, cond, leb, ltb, eqb, length};
 ghost use Rattle.stream_table.specs.Table.{theirs, good_numbers, good_rec, good_from, sound_b, rec_at, put_rec, records, find_in, entered, has_place, stored_at, lower, upper, inserted, inserted_at, removed, removed_at, left, stripped, strip_after, sum_ends};
 
@@ -17,14 +19,14 @@ pub const WIDTH: usize = 7;
 pub const PLACES: usize = 256;
 
 // Where a stream is.
-#[derive(Drop)]
+#[derive(Clone, Copy)]
 pub enum Found {
     At(usize),
     Nothing,
 }
 
 // What every call on a stream begins with comes to: a refusal, a closed stream, or the place with its record.
-#[derive(Drop)]
+#[derive(Clone, Copy)]
 pub enum Entry {
     No(u8),
     Absent,
@@ -32,7 +34,7 @@ pub enum Entry {
 }
 
 // The peer's streams that are left, and the sum of our own streams' ends.
-#[derive(Drop)]
+#[derive(Clone, Copy)]
 pub struct Stripped {
     pub answer: u8,
     pub count: usize,

@@ -1,6 +1,8 @@
 // The calls on one stream of the table: the peer's data and resets, the application's reads and stops, our own announcements
 // (01, Streams and bytes; RFC 9000 sections 3.2, 4.1 and 4.5; streams/state.rs, recv.rs). Each checks the connection record and the
 // whole table first; a refusal leaves both as they were. `free` in what a call hands back says that `stream_places::free` is due.
+#![tactic(auto)]
+
 ghost use Rattle.std.specs.Prelude.{◌≡◌, ℕ, ◌+◌, ◌*◌, ◌<◌, ◌≤◌, cond, length};
 ghost use Rattle.stream_conn.specs.Books.{raised};
 ghost use Rattle.streams.specs.Calls.{after, booked, committed, data_after, reset_after, stop_after, read_after, seen_after, announce_after, sent_after, looked, look_of};
@@ -15,7 +17,7 @@ use stream_table::Entry;
 const TOP: u64 = 1 << 62;
 
 // One stream's record, as a printer wants it: all zero where the stream is closed or can't be received on.
-#[derive(Drop)]
+#[derive(Clone, Copy)]
 pub struct Looked {
     pub answer: u8,
     pub stream: Stream,

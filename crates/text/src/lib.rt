@@ -1,5 +1,7 @@
 // Words, numbers and byte strings of a line of text. What stands between blanks is a word, a byte up to the space is a blank,
 // and what follows the sign # is a note. Nothing here reads or writes a file.
+#![tactic(auto)]
+
 ghost use Rattle.std.specs.Prelude.{◌≡◌, true, ◌+◌, ◌/◌, ◌<◌, ◌≤◌, length, take};
 ghost use Rattle.std.proofs.lemmas.List.Edits.{sets};
 ghost use Rattle.text.specs.Words.{skipped, ended, word_at, is_end, unnoted, front, plain};
@@ -8,7 +10,7 @@ ghost use Rattle.text.specs.Numbers.{number_of, number_at};
 ghost use Rattle.text.specs.Bytes.{hex_value, is_hex, unhexed, unhex_at, digits_of, bytes_at, done};
 
 // The bytes of a word are those from start up to end.
-#[derive(Drop)]
+#[derive(Clone, Copy)]
 pub struct Word {
     pub start: usize,
     pub end: usize,
@@ -111,14 +113,14 @@ pub fn same(a: &[u8], b: &[u8]) -> bool
 
 // A number of a line: whether there is one, which, and where the next word may start. Where there is none, next stays before
 // the word that is no number, so that a later number is refused too.
-#[derive(Drop)]
+#[derive(Clone, Copy)]
 pub struct Number {
     pub ok: bool,
     pub value: u64,
     pub next: usize,
 }
 
-#[derive(Drop)]
+#[derive(Clone, Copy)]
 pub enum Digits {
     Is(u64),
     Not,
@@ -207,7 +209,7 @@ fn hex_value(b: u8) -> u8
     16
 }
 
-#[derive(Drop)]
+#[derive(Clone, Copy)]
 pub enum Hex {
     End(usize),
     Not,
@@ -275,7 +277,7 @@ fn hex_digits(s: &[u8]) -> &[u8]
 }
 
 // A byte string of a line: whether there is one that has room, where its bytes end, and where the next word may start.
-#[derive(Drop)]
+#[derive(Clone, Copy)]
 pub struct Bytes {
     pub ok: bool,
     pub end: usize,

@@ -1,17 +1,19 @@
 // The variable-length integers of RFC 9000, section 16 (01, Varint): one at the start or at a position of a buffer is read in
 // whatever length it has, and is written in its shortest.
+#![tactic(auto)]
+
 ghost use Rattle.std.specs.Prelude.{◌≡◌, ◌≤◌, ◌<◌, ◌^◌, length, drop};
 ghost use Rattle.varint.specs.Varint.{width, read_varint, read_at, sound, sound_at, size_of, marked, done, write_varint};
 
 // What reading finds: a value with the number of bytes that it took, or why there is none.
-#[derive(Drop)]
+#[derive(Clone, Copy)]
 pub enum Got {
     Value { value: u64, len: usize },
     Refused(u8),
 }
 
 // What writing did: how many bytes it wrote, or why none.
-#[derive(Drop)]
+#[derive(Clone, Copy)]
 pub enum Wrote {
     Len(usize),
     Refused(u8),

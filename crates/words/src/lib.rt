@@ -1,10 +1,12 @@
 // The words of an event: each kind of word adds to the numbers or to the bytes of the event, which go to lent memory. A word that does not fit is
 // not passed over, and the whole is then said not to have fitted.
+#![tactic(auto)]
+
 ghost use Rattle.std.specs.Prelude.{◌≡◌, length};
 ghost use Rattle.words.specs.Words.{failed, pushed, pushed_two, number_taken, option_taken, name_taken, bytes_taken, pairs_from, pairs_taken, numbers_taken, one_taken, words_taken, done, both};
 
 // How far a line is read: whether all words fitted, the place behind the last, and how many numbers and bytes there are.
-#[derive(Drop)]
+#[derive(Clone, Copy)]
 pub struct Cursor {
     pub ok: bool,
     pub at: usize,
