@@ -36,8 +36,12 @@ pub digits_bytes : (n x : ℕ) (rest : List ℕ) → digits (bytes (suc n) x ++ 
 digits_bytes zero x rest = omega arith
 digits_bytes (suc n) x rest =
     let e : 64 * 256 ^ suc n ≡ 64 * 256 ^ n * 256 = rw (pow-suc 256 n) (omega arith) in
-    let g : get_or (bytes (suc n) (x / 256) ++ (x % 256 ∷ rest)) (suc n) 0 ≡ x % 256 = get_or_at (bytes (suc n) (x / 256)) (x % 256) rest 0 (suc n) (length_bytes (suc n) (x / 256)) in
-    rw (e, mod-mul x {m = 64 * 256 ^ n} {c = 256} (omega (arith, one-le-pow n 256 (lit< tt))) (lit< tt), append_assoc (bytes (suc n) (x / 256)) (x % 256 ∷ []) rest, digits_bytes n (x / 256) (x % 256 ∷ rest), g)
+    let a : bytes (suc (suc n)) x ++ rest ≡ bytes (suc n) (x / 256) ++ (x % 256 ∷ rest) = append_assoc (bytes (suc n) (x / 256)) (x % 256 ∷ []) rest in
+    let i : digits (bytes (suc (suc n)) x ++ rest) n ≡ x / 256 % (64 * 256 ^ n) = ap (λ (s : List ℕ). digits s n) a ∙ digits_bytes n (x / 256) (x % 256 ∷ rest) in
+    let g : get_or (bytes (suc (suc n)) x ++ rest) (suc n) 0 ≡ x % 256 =
+        ap (λ (s : List ℕ). get_or s (suc n) 0) a ∙ get_or_at (bytes (suc n) (x / 256)) (x % 256) rest 0 (suc n) (length_bytes (suc n) (x / 256)) in
+    let m : x % (64 * 256 ^ n * 256) ≡ x / 256 % (64 * 256 ^ n) * 256 + x % 256 = mod-mul x {m = 64 * 256 ^ n} {c = 256} (omega (arith, one-le-pow n 256 (lit< tt))) (lit< tt) in
+    ap (λ (d : ℕ). d * 256 + get_or (bytes (suc (suc n)) x ++ rest) (suc n) 0) i ∙ ap (λ (d : ℕ). x / 256 % (64 * 256 ^ n) * 256 + d) g ∙ sym (ap (λ (d : ℕ). x % d) e ∙ m)
 
 round_1 : (v : ℕ) (rest : List ℕ) → v < 64 → read_varint (bytes 1 v ++ rest) ≡ Value v 1
 round_1 v rest h =

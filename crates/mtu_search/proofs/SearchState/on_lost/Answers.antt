@@ -1,0 +1,10 @@
+-- The record is the definition's.
+use Rattle.mtu_search.proofs.Laws.{laws}
+use borrow.Author.Rules.{rules}
+use Rattle.mtu_search.proofs.SearchState.on_lost.Goals as goal
+
+pub fewer-requires : goal.fewer-requires
+fewer-requires c = tt
+
+pub returns : goal.returns
+returns c = search (rules, laws)

@@ -1,0 +1,12 @@
+-- `shift` meets its contract: it is one of the two moves, and a move to where the part stands is none.
+use Rattle.range_list.proofs.Moves.{paste_same}
+use mathlib.Core.Path.{◌≡◌, sym}
+use Prim.Native.Nat.{◌-◌}
+use native.Mathlib.Omega.{arith}
+use Rattle.range_list.proofs.shift.Goals as goal
+
+pub returns-else-from-to : goal.returns-else-from-to
+returns-else-from-to c =
+    let a = c.args in
+    let e : a.to ≡ a.from = omega arith in
+    rw e (sym (paste_same a.list.now a.from a.n))

@@ -1,0 +1,21 @@
+-- `splice_two` meets its contract: a move of the ranges after the gap and four stores are the splice.
+use Rattle.range_list.proofs.Laws.{splice_two_is}
+use Prim.Native.Nat.{◌-◌}
+use lib.ListN.{length-set}
+use borrow.Author.Rules.{rules}
+use native.Mathlib.Omega.{arith}
+use Rattle.range_list.proofs.splice_two.Goals as goal
+
+pub bounds-list-lo-2 : goal.bounds-list-lo-2
+bounds-list-lo-2 c = simp length-set (omega arith)
+
+pub bounds-list-lo-3 : goal.bounds-list-lo-3
+bounds-list-lo-3 c = simp length-set (omega arith)
+
+pub bounds-list-lo-4 : goal.bounds-list-lo-4
+bounds-list-lo-4 c = simp length-set (omega arith)
+
+pub returns : goal.returns
+returns c =
+    let a = c.args in
+    splice_two_is a.list.now _ a.count a.lo a.hi a.a a.b a.c a.d (search rules) (search rules) (search rules) (search rules) c.shift.ensures

@@ -1,0 +1,10 @@
+-- One law a direction.
+use Rattle.stream_conn.proofs.Laws.{counted}
+use borrow.Author.Rules.{rules}
+use Rattle.stream_conn.proofs.Conn.counts.Goals as goal
+
+pub returns-then-dir-eq1 : goal.returns-then-dir-eq1
+returns-then-dir-eq1 c = search (rules, counted)
+
+pub returns : goal.returns
+returns c = search (rules, counted)

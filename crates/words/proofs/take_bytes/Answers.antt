@@ -1,0 +1,13 @@
+-- `words::take_bytes` meets its contract. Each return rewrites with the tests that led there and with what the calls before it promise. Assumes nothing.
+use Rattle.words.proofs.Laws.{bytes_second, bytes_first, bytes_not}
+use borrow.Author.Rules.{rules}
+use Rattle.words.proofs.take_bytes.Goals as goal
+
+pub returns-then-second : goal.returns-then-second
+returns-then-second c = search (rules, bytes_second)
+
+pub returns-then-b : goal.returns-then-b
+returns-then-b c = search (rules, bytes_first)
+
+pub returns : goal.returns
+returns c = search (rules, bytes_not)
