@@ -4,7 +4,7 @@ use mathlib.Core.Path.{◌≡◌, ap, ◌∙◌}
 use mathlib.Core.List.{List, [], ◌∷◌}
 use Prim.Native.Nat.{ℕ}
 use contract.Lifetimes.{Lfts}
-use denote.Ref.{MutBor, at_last}
+use denote.Ref.{Bor, MutBor, at_last}
 use Rattle.answers.specs.Answers.{MALFORMED}
 use Rattle.varint.specs.Varint.{read_varint, width, size_of, log_of}
 use Rattle.ack_frame.specs.declared.Ack.{Ack}
@@ -13,10 +13,10 @@ use Rattle.ack_frame.proofs.read as read
 use Rattle.ack_frame.proofs.Examples.{frame, list}
 
 -- what `read` may answer of the frame f, and leave in the list l
-abbrev Outcome : Lfts 2 → MutBor (List ℕ) → MutBor (List ℕ) → Ack → List ℕ → Type 0
+abbrev Outcome : Lfts 2 → Bor (List ℕ) → MutBor (List ℕ) → Ack → List ℕ → Type 0
 Outcome κs f l r m = read.Reads.Post κs (f, (l, tt)) r (f, (at_last l m, tt))
 
-module _ (κs : Lfts 2) (f l : MutBor (List ℕ)) (r : Ack) (m : List ℕ) (e : l.now ≡ list) (p : Outcome κs f l r m) where
+module _ (κs : Lfts 2) (f : Bor (List ℕ)) (l : MutBor (List ℕ)) (r : Ack) (m : List ℕ) (e : l.now ≡ list) (p : Outcome κs f l r m) where
   pub no_refusal : f.now ≡ frame → (r ≡ accepted 3 9 0 9) × (m ≡ 0 ∷ 4 ∷ 5 ∷ 6 ∷ 8 ∷ 10 ∷ 7 ∷ [])
   unfolding read_ack head_of kind_at fields_at walk_of below step_at int_at read_varint width size_of log_of
   no_refusal g =

@@ -3,6 +3,7 @@
 #![tactic(auto)]
 
 use lines::Feed;
+use std::io::{Error, Read, Result};
 
 // What is kept from line to line, but for the arrays.
 #[derive(Clone, Copy)]
@@ -55,14 +56,15 @@ fn check(
 }
 
 // One call for the next line, and what comes of it.
-fn turn(
+fn turn<R: Read>(
+    source: &mut R,
     buf: &mut [u8; 65536],
     mut k: Kept,
     frame: &mut [u8; 65536],
     list: &mut [u64; 128],
     out: &mut [u8; 65536],
 ) -> Kept {
-    let feed = lines::next(libc::STDIN_FILENO, buf, k.feed);
+    let feed = lines::next(source, buf, k.feed);
     k.feed = feed;
     let mut at = k.at;
     let kind = feed.kind;
@@ -83,8 +85,8 @@ fn turn(
     k
 }
 
-// A proved loop has to end, and nothing says that the input does: the turns count down from a number that no run uses up.
-fn main() {
+// A proved loop has to end, and nothing says that the input does: the turns are as many as no run uses up.
+fn run<R: Read>(source: &mut R) -> Result<()> {
     let mut buf = io::large_buffer();
     let mut out = io::large_buffer();
     let mut frame = io::large_buffer();
@@ -93,18 +95,21 @@ fn main() {
         feed: lines::begin(),
         at: 0,
     };
-    let mut turns = u64::MAX;
-    while turns > 0 {
-        turns -= 1;
-        k = turn(&mut buf, k, &mut frame, &mut list, &mut out);
+    for _ in 0..u64::MAX {
+        k = turn(source, &mut buf, k, &mut frame, &mut list, &mut out);
         let feed = k.feed;
         if lines::END <= feed.kind {
             let mut at = k.at;
             out::flush(&mut out, &mut at);
             if at == out::FAILED {
-                os::fail(b"standard output");
+                return Err(Error::other("standard output: a write failed"));
             }
-            return;
+            return Ok(());
         }
     }
+    Ok(())
+}
+
+fn main(rt: HostRuntime) -> Result<()> {
+    run(&mut rt.stdin())
 }

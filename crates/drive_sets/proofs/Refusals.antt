@@ -16,7 +16,7 @@ use Rattle.range_many.specs.Many.{edit_all, idle_all, merge_into}
 use Rattle.range_set.specs.Set.{valid, on_range, on_sets, insert_range, remove_range, replace_range, add_set, subtract_set, Pop, pop_first, pop_min}
 use Rattle.pending_acks.specs.Acks.{MAX_ACK_BLOCKS, usable, Left, put, drop_lowest, keep, insert_one, Below, subtract_below}
 use Rattle.drive_sets.specs.declared.Did.{Did}
-use Rattle.drive_sets.specs.Sets.{Done, done, record_of, recorded, subtracted, Both, both, beside, changes, popped, ask_of, edit_of, replaced, set_of, filled, taken, renewed, renew_of}
+use Rattle.drive_sets.specs.Sets.{Done, done, record_of, recorded, subtracted, Both, beside, changes, popped, ask_of, edit_of, replaced, set_of, filled, taken, renewed, renew_of}
 
 -- both ways of a test
 either : {A : Type 0} (P : A → Type 0) (b : Bool) {x y : A} → P x → P y → P (cond b x y)

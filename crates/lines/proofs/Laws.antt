@@ -1,15 +1,13 @@
 -- One law for each return, and for each turn of a loop: its premises are the code's tests and what the calls before it promise. Assumes nothing.
 use mathlib.Core.Path.{◌≡◌, refl, sym, ap, ◌∙◌}
-use mathlib.Core.List.{List, [], ◌∷◌, ◌++◌}
+use mathlib.Core.List.{List, ◌++◌}
 use mathlib.Core.Bool.{Bool, true, false, cond}
-use mathlib.Core.Logic.{◌⊎◌, inl, inr}
-use Prim.Native.Nat.{ℕ, zero, suc, ◌+◌, ◌-◌, ◌≤◌, ◌<◌}
+use mathlib.Core.Logic.{inl, inr}
+use Prim.Native.Nat.{ℕ, suc, ◌+◌, ◌-◌, ◌≤◌, ◌<◌}
 use native.Mathlib.Omega.{arith}
 use native.Mathlib.Nat.{zero-add, add_comm, le_refl, le-add_right}
-use native.Mathlib.Numerals.{add-one}
 use lib.ListN.{length, take, drop, get_or, set, length-drop}
 use lib.Seq.{get_or-append-add, get_or-drop, paste-suc, take_at, length-take-le}
-use lib.Dec.{ltb, eqb}
 use borrow.Author.Tests.{lt-ltb, le-ltb, eq-eqb, ne_eqb}
 use Rattle.lines.specs.declared.Feed.{Feed}
 use Rattle.lines.specs.Lines.{Next, Read, begun, fitted, part, line_of, end_from, down, one_more, passed_of, found_of, long_of, none_of, last_of, kept, line_end, settles, settled}
@@ -159,6 +157,16 @@ unsettled : (s : List ℕ) (f : Feed) {e : ℕ} → e ≡ line_end s f → f.to 
 unfolding settles
 unsettled s f {e} g h d k = rw (← g, le-ltb e f.to h, d, ne_eqb (kept f) 65536 k)
 
+never_settles : (s : List ℕ) (f : Feed) {e : ℕ} → e ≡ line_end s f → f.to ≤ e → f.ended ≡ false → (kept f ≡ 65536 → ⊥) → settles s f ≡ true → ⊥
+never_settles s f g h d k w = let z : ◌≡◌ {A = Bool} true false = sym w ∙ unsettled s f g h d k in let y : ◌≡◌ {A = ℕ} 0 1 = cc in omega arith
+
+-- where a source is read, what is held does not say what comes next
+pub unread : (s : List ℕ) (f : Feed) {e : ℕ} → e ≡ line_end s f → f.to ≤ e → f.ended ≡ false → (kept f ≡ 65536 → ⊥) → {R : Type 0} {x y : R} → settles s f ≡ true → x ≡ y
+unread s f g h d k w = absurd (never_settles s f g h d k w)
+
+pub unread_fitted : (s : List ℕ) (f : Feed) {g : Feed} {R : Type 0} {x y : R} → g ≡ fitted f → (settles s g ≡ true → x ≡ y) → settles s (fitted f) ≡ true → x ≡ y
+unread_fitted s f {x = x} {y = y} e q = rw (← e) q
+
 module _ (s : List ℕ) (f : Feed) {r : Feed} {e : ℕ} (g : e ≡ line_end s f) where
   pub next_found : e < f.to → r ≡ found_of f e (e + 1) → Next s f s r
   unfolding settles settled
@@ -180,7 +188,7 @@ module _ (s : List ℕ) (f : Feed) {r : Feed} {e : ℕ} (g : e ≡ line_end s f)
 
   pub next_read : {s' : List ℕ} → f.to ≤ e → f.ended ≡ false → (kept f ≡ 65536 → ⊥) → Read s f s' r → Next s f s' r
   next_read h d k q =
-      let never : settles s f ≡ true → ⊥ = λ w. let z : ◌≡◌ {A = Bool} true false = sym w ∙ unsettled s f g h d k in let y : ◌≡◌ {A = ℕ} 0 1 = cc in omega arith in
+      let never : settles s f ≡ true → ⊥ = never_settles s f g h d k in
       record { feed = λ w. absurd (never w); same = λ w. absurd (never w); read = λ _. q }
 
 pub next_fitted : (s : List ℕ) (f : Feed) {g r : Feed} {s' : List ℕ} → g ≡ fitted f → Next s g s' r → Next s (fitted f) s' r

@@ -2,8 +2,10 @@
 // other; one of more than 65,000 bytes is passed over and said to be too long.
 #![tactic(auto)]
 
-ghost use Rattle.std.specs.Prelude.{◌≡◌, ◌+◌, ◌-◌, ◌≤◌, length, take};
-ghost use Rattle.lines.specs.Lines.{Held, Read, Next, begun, fitted, part, line_of, end_from, one_more, passed_of, found_of, long_of, none_of, last_of, down};
+ghost use Rattle.std.specs.Prelude.{◌≡◌, ◌+◌, ◌-◌, ◌≤◌, length, take, true};
+ghost use Rattle.lines.specs.Lines.{Held, Read, Next, begun, fitted, part, line_of, end_from, one_more, passed_of, found_of, long_of, none_of, last_of, down, settles};
+
+use std::io::Read;
 
 // What a call of `next` found: a line; nothing yet, so that it is called again; a line that is too long, which is
 // passed over; the end; a read that failed.
@@ -85,14 +87,15 @@ struct Got {
 }
 
 // Reads once, to `to` and behind it.
-fn read_more(fd: i32, buf: &mut [u8], to: usize) -> Got
+fn read_more<R: Read>(source: &mut R, buf: &mut [u8], to: usize) -> Got
     requires { to ≤ length buf.old }
     ensures n_in_bounds { to + result.n ≤ length buf.old }
     ensures buf_unchanged { take to buf.new ≡ take to buf.old }
 {
-    let got = libc::read(fd, &mut buf[to..]);
-    let n = io::count(got, &buf[to..]);
-    Got { n, failed: got < 0 }
+    match source.read(&mut buf[to..]) {
+        Ok(n) => Got { n, failed: false },
+        Err(_) => Got { n: 0, failed: true },
+    }
 }
 
 fn one_more(n: u64) -> u64
@@ -228,7 +231,7 @@ fn held(f: Feed) -> Feed
 }
 
 // Moves what is held to the start, and reads once, behind it.
-fn read_on(fd: i32, buf: &mut [u8], f: Feed) -> Feed
+fn read_on<R: Read>(source: &mut R, buf: &mut [u8], f: Feed) -> Feed
     requires held { Held f }
     requires buf_len { length buf.old ≡ 65536 }
     ensures read { Read buf.old f buf.new result }
@@ -238,7 +241,7 @@ fn read_on(fd: i32, buf: &mut [u8], f: Feed) -> Feed
     let to = f.to;
     let kept = to - from;
     move_down(buf, from, to);
-    let got = read_more(fd, buf, kept);
+    let got = read_more(source, buf, kept);
     if got.failed {
         return nothing(f, FAILED, kept, true);
     }
@@ -248,19 +251,21 @@ fn read_on(fd: i32, buf: &mut [u8], f: Feed) -> Feed
     nothing(f, MORE, kept + got.n, false)
 }
 
-// The next line. A call finds at most one line and reads at most once.
-pub fn next(fd: i32, buf: &mut [u8; 65536], f: Feed) -> Feed
+// The next line. A call finds at most one line and reads at most once, and not at all where what is held says what comes next.
+pub fn next<R: Read>(source: &mut R, buf: &mut [u8; 65536], f: Feed) -> Feed
     ensures next { Next buf.old (fitted f) buf.new result }
     ensures held { Held result }
+    ensures source_unread { settles buf.old (fitted f) ≡ true → source.new ≡ source.old }
 {
-    next_in(fd, buf, held(f))
+    next_in(source, buf, held(f))
 }
 
-fn next_in(fd: i32, buf: &mut [u8], f: Feed) -> Feed
+fn next_in<R: Read>(source: &mut R, buf: &mut [u8], f: Feed) -> Feed
     requires held { Held f }
     requires buf_len { length buf.old ≡ 65536 }
     ensures next { Next buf.old f buf.new result }
     ensures held_2 { Held result }
+    ensures source_unread { settles buf.old f ≡ true → source.new ≡ source.old }
 {
     let from = f.from;
     let to = f.to;
@@ -274,7 +279,7 @@ fn next_in(fd: i32, buf: &mut [u8], f: Feed) -> Feed
     if to - from == 65536 {
         return too_long(f);
     }
-    read_on(fd, buf, f)
+    read_on(source, buf, f)
 }
 
 // The line that `next` found.

@@ -1,10 +1,13 @@
 // Output that is gathered in a buffer and written to standard output when the buffer is full. The place `at` is the caller's to keep, from 0
 // on. Once a write has failed it is FAILED, and nothing more is gathered or written.
+#![tactic(auto)]
+
 ghost use Rattle.std.specs.Prelude.{◌≡◌, ◌<◌, ◌≤◌, length};
 ghost use Rattle.print.specs.Print.{decimal, hexed, range as Print·range};
 ghost use Rattle.out.specs.Went.{Room, Went, Written, Flushed};
 
-use libc::STDOUT_FILENO;
+// The descriptor of standard output.
+const STDOUT: i32 = 1;
 
 pub const FAILED: usize = usize::MAX;
 
@@ -23,7 +26,7 @@ pub fn flush(buf: &mut [u8; 65536], at: &mut usize)
 fn write(s: &[u8]) -> usize
     ensures { Written result }
 {
-    if io::write_all(STDOUT_FILENO, s) {
+    if io::write_all(STDOUT, s) {
         return 0;
     }
     FAILED

@@ -1,6 +1,6 @@
 -- What was written is read back: 17.1's purpose. The distance is below half a window, so the number sent lies in the window of every
 -- receiver whose largest number is at least the one acknowledged, and below the one sent. Assumes nothing.
-use Prim.Native.Nat.{ℕ, zero, suc, ◌+◌, ◌-◌, ◌/◌, ◌%◌, ◌<◌, ◌≤◌}
+use Prim.Native.Nat.{ℕ, zero, suc, ◌+◌, ◌-◌, ◌*◌, ◌/◌, ◌%◌, ◌<◌, ◌≤◌}
 use mathlib.Core.Path.{◌≡◌, refl, ap, sym, ◌∙◌}
 use mathlib.Core.Bool.{Bool, true, false}
 use mathlib.Core.Logic.{◌⊎◌, ⊎_elim}
@@ -13,7 +13,7 @@ use lib.Seq.{get_or_at, take_at}
 use lib.Arith.{mod-mul}
 use borrow.Author.Tests.{le-leb, lt-leb, lt-ltb}
 use contract.Lifetimes.{Lfts}
-use denote.Ref.{MutBor, at_last}
+use denote.Ref.{Bor, MutBor, at_last}
 use Rattle.answers.proofs.Tests.{split}
 use Rattle.answers.specs.Answers.{OK}
 use Rattle.big_endian.specs.Bytes.{bytes}
@@ -33,8 +33,11 @@ pub digits_bytes : (k x : ℕ) (rest : List ℕ) → digits (bytes k x ++ rest) 
 unfolding window
 digits_bytes zero x rest = omega arith
 digits_bytes (suc k) x rest =
-    let g : get_or (bytes k (x / 256) ++ (x % 256 ∷ rest)) k 0 ≡ x % 256 = get_or_at (bytes k (x / 256)) (x % 256) rest 0 k (length_bytes k (x / 256)) in
-    rw (window_suc k, mod-mul x {m = window k} {c = 256} (window_pos k) (lit< tt), append_assoc (bytes k (x / 256)) (x % 256 ∷ []) rest, digits_bytes k (x / 256) (x % 256 ∷ rest), g)
+    let a : bytes (suc k) x ++ rest ≡ bytes k (x / 256) ++ (x % 256 ∷ rest) = append_assoc (bytes k (x / 256)) (x % 256 ∷ []) rest in
+    let i : digits (bytes (suc k) x ++ rest) k ≡ x / 256 % window k = ap (λ (s : List ℕ). digits s k) a ∙ digits_bytes k (x / 256) (x % 256 ∷ rest) in
+    let g : get_or (bytes (suc k) x ++ rest) k 0 ≡ x % 256 = ap (λ (s : List ℕ). get_or s k 0) a ∙ get_or_at (bytes k (x / 256)) (x % 256) rest 0 k (length_bytes k (x / 256)) in
+    let m : x % (window k * 256) ≡ x / 256 % window k * 256 + x % 256 = mod-mul x {m = window k} {c = 256} (window_pos k) (lit< tt) in
+    ap (λ (d : ℕ). d * 256 + get_or (bytes (suc k) x ++ rest) k 0) i ∙ ap (λ (d : ℕ). x / 256 % window k * 256 + d) g ∙ sym (ap (λ (d : ℕ). x % d) (window_suc k) ∙ m)
 
 -- A receiver finds every packet number that is less than half a window below the expected one, or up to half a window above it.
 module _ (number len largest : ℕ) (low : 1 ≤ len) (high : len ≤ 4) (known : number < limit) (had : largest < limit)
@@ -92,12 +95,12 @@ encode_ok out number acked e = by_writable (writable number acked) refl where
 abbrev pub Sends : Lfts 1 → MutBor (List ℕ) → ℕ → ℕ → Encoded → List ℕ → Type 0
 Sends κs out number acked r m = encode.Reads.Post κs (out, (number, (acked, tt))) r (at_last out m, (number, (acked, tt)))
 
-abbrev pub Gets : Lfts 1 → MutBor (List ℕ) → ℕ → ℕ → Expanded → Type 0
+abbrev pub Gets : Lfts 1 → Bor (List ℕ) → ℕ → ℕ → Expanded → Type 0
 Gets κs s len largest x = expand.Reads.Post κs (s, (len, (largest, tt))) x (s, (len, (largest, tt)))
 
 -- So of the two functions: the bytes that `encode` wrote, whatever follows them, `expand` turns back into the number.
 pub sent_is_got :
-    (κs κt : Lfts 1) (out s : MutBor (List ℕ)) (number acked largest : ℕ) (r : Encoded) (m rest : List ℕ) (x : Expanded)
+    (κs κt : Lfts 1) (out : MutBor (List ℕ)) (s : Bor (List ℕ)) (number acked largest : ℕ) (r : Encoded) (m rest : List ℕ) (x : Expanded)
     → Sends κs out number acked r m → r.answer ≡ OK → s.now ≡ take r.len m ++ rest → acked ≤ largest → largest < number
     → Gets κt s r.len largest x → x ≡ record { answer = OK; number = number }
 sent_is_got κs κt out s number acked largest r m rest x sends ok same from upto gets =

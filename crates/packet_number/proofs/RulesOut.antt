@@ -3,7 +3,7 @@ use mathlib.Core.Path.{◌≡◌, ap, ◌∙◌}
 use mathlib.Core.List.{List, [], ◌∷◌}
 use Prim.Native.Nat.{ℕ}
 use contract.Lifetimes.{Lfts}
-use denote.Ref.{Bor}
+use denote.Ref.{Bor, MutBor}
 use Rattle.answers.specs.Answers.{OK, RANGE}
 use Rattle.packet_number.specs.declared.Encoded.{Encoded}
 use Rattle.packet_number.specs.declared.Expanded.{Expanded}
@@ -17,14 +17,14 @@ pub two_at_128 : (r : Encoded) → new.Reads.Post tt (128, (0, tt)) r (128, (0, 
 two_at_128 r p = p ∙ difference_128
 
 -- a writer that always refuses, or writes other bytes, or touches what lies past them
-pub writes_two : (κs : Lfts 1) (out : Bor (List ℕ)) (r : Encoded) (m : List ℕ) → out.now ≡ 0 ∷ 0 ∷ 0 ∷ [] → Sends κs out 0xac5c02 0xabe8b3 r m
+pub writes_two : (κs : Lfts 1) (out : MutBor (List ℕ)) (r : Encoded) (m : List ℕ) → out.now ≡ 0 ∷ 0 ∷ 0 ∷ [] → Sends κs out 0xac5c02 0xabe8b3 r m
     → (r ≡ record { answer = OK; len = 2; value = 0x5c02 }) × (m ≡ 0x5c ∷ 0x02 ∷ 0 ∷ [])
 writes_two κs out r m e p =
     let q = p ∙ ap (λ l. encode_of l 0xac5c02 0xabe8b3) e ∙ sends_ac5c02 in
     (ap (λ d. d.out) q, ap (λ d. d.mem) q)
 
 -- ROOM before RANGE: a number that cannot be written, and no room
-pub range_before_room : (κs : Lfts 1) (out : Bor (List ℕ)) (r : Encoded) (m : List ℕ) → out.now ≡ [] → Sends κs out 4 5 r m → r.answer ≡ RANGE
+pub range_before_room : (κs : Lfts 1) (out : MutBor (List ℕ)) (r : Encoded) (m : List ℕ) → out.now ≡ [] → Sends κs out 4 5 r m → r.answer ≡ RANGE
 range_before_room κs out r m e p = ap (λ d. d.out.answer) (p ∙ ap (λ l. encode_of l 4 5) e ∙ range_first)
 
 -- a reader that always refuses

@@ -5,9 +5,8 @@ use mathlib.Core.Bool.{true}
 use mathlib.Core.List.{List, ◌∷◌}
 use Prim.Native.Nat.{ℕ, ◌+◌, ◌≤◌}
 use native.Mathlib.Omega.{arith}
-use lib.ListN.{length}
 use Rattle.answers.specs.Answers.{OK}
-use Rattle.range_list.specs.Ranges.{Range, read, over, sound, well_formed}
+use Rattle.range_list.specs.Ranges.{Range, read, sound, well_formed}
 use Rattle.range_list.proofs.Sound.{sound_parts, sound_weaker, formed}
 use Rattle.range_list.proofs.Kept.{formed_over}
 use Rattle.range_list.proofs.Laws.{length_read}

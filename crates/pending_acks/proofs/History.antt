@@ -9,7 +9,7 @@ use mathlib.Core.List.{List, [], ◌∷◌}
 use Prim.Native.Nat.{ℕ, ◌+◌, ◌/◌, ◌^◌, ◌≤◌, ◌<◌}
 use native.Mathlib.Omega.{arith}
 use lib.ListN.{length}
-use lib.Dec.{ltb, leb, eqb}
+use lib.Dec.{leb}
 use contract.Lifetimes.{Lfts}
 use denote.Ref.{MutBor, at_last}
 use borrow.Author.Tests.{leb-true, leb-false, lt-ltb, le-leb, eq-eqb}
@@ -26,7 +26,7 @@ use Rattle.pending_acks.specs.declared.Recorded.{Recorded}
 use Rattle.pending_acks.specs.declared.Subtracted.{Subtracted}
 use Rattle.range_set.proofs.AtLimit.{insert_length}
 use Rattle.range_edit.proofs.Changes.{covers_in, New, uncovered, clear, Common, met}
-use Rattle.pending_acks.specs.Acks.{Left, refuse, drop_lowest, keep, insert_one, Below, below, subtract_below}
+use Rattle.pending_acks.specs.Acks.{Left, refuse, drop_lowest, keep, insert_one, Below, subtract_below}
 use Rattle.pending_acks.specs.History.{Event, recorded, removed, dropped, Holds, Received, after_insert, after_below, count_of}
 use Rattle.pending_acks.proofs.Sets.{remove_length, insert_cases, below_cases}
 use Rattle.range_list.proofs.Shortest.{shortest}

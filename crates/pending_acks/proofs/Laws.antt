@@ -6,9 +6,9 @@ use mathlib.Core.List.{List, [], ◌∷◌}
 use Prim.Native.Nat.{ℕ, ◌+◌, ◌/◌, ◌^◌, ◌≤◌, ◌<◌}
 use native.Mathlib.Omega.{arith}
 use lib.ListN.{length}
-use lib.Dec.{ltb, leb}
+use lib.Dec.{leb}
 use borrow.Author.Tests.{leb-false, lt-ltb, le-ltb, le-leb, lt-leb}
-use Rattle.range_list.specs.Ranges.{Range, read, sound, well_formed}
+use Rattle.range_list.specs.Ranges.{Range, read, well_formed}
 use Rattle.range_list.proofs.Sound.{by_bool, formed}
 use Rattle.range_list.proofs.Laws.{length_read}
 use Rattle.range_edit.specs.declared.Changed.{Changed}

@@ -10,7 +10,7 @@ use native.Mathlib.Omega.{arith}
 use lib.ListN.{length}
 use lib.Dec.{ltb, leb}
 use contract.Lifetimes.{Lfts}
-use denote.Ref.{MutBor, at_last}
+use denote.Ref.{Bor, MutBor, at_last}
 use borrow.Author.Tests.{ltb-true, ltb-false, leb-true}
 use Rattle.range_list.specs.Ranges.{Range, read, flat, over, sound, well_formed, In}
 use Rattle.range_list.proofs.Sound.{by_bool, Sound, sound_parts, sound_weaker, formed}
@@ -263,10 +263,10 @@ pub data Run : List Event → List ℕ → ℕ → Type 0 where
   replaced : {h : List Event} {n : ℕ} (κs : Lfts 2) (x : MutBor (List ℕ)) (s e : ℕ) (p : MutBor (List ℕ)) (r : Replaced) (m q : List ℕ)
       → Run h x.now n → replace_fn.Reads.Post κs (x, (n, (s, (e, (p, tt))))) r (at_last x m, (n, (s, (e, (at_last p q, tt)))))
       → Run (if_ok r.answer (put s e) ∷ h) m (count_after r.answer r.count n)
-  added : {h : List Event} {n : ℕ} (κs : Lfts 2) (x o : MutBor (List ℕ)) (k : ℕ) (r : Changed) (m : List ℕ)
+  added : {h : List Event} {n : ℕ} (κs : Lfts 2) (x : MutBor (List ℕ)) (o : Bor (List ℕ)) (k : ℕ) (r : Changed) (m : List ℕ)
       → Run h x.now n → add_fn.Reads.Post κs (x, (n, (o, (k, tt)))) r (at_last x m, (n, (o, (k, tt))))
       → Run (cond (leb r.answer 0) (all_events false (read o.now 0 k) h) (refused ∷ h)) m (count_after r.answer r.count n)
-  subtracted : {h : List Event} {n : ℕ} (κs : Lfts 2) (x o : MutBor (List ℕ)) (k : ℕ) (r : Changed) (m : List ℕ)
+  subtracted : {h : List Event} {n : ℕ} (κs : Lfts 2) (x : MutBor (List ℕ)) (o : Bor (List ℕ)) (k : ℕ) (r : Changed) (m : List ℕ)
       → Run h x.now n → subtract_fn.Reads.Post κs (x, (n, (o, (k, tt)))) r (at_last x m, (n, (o, (k, tt))))
       → Run (cond (leb r.answer 0) (all_events true (read o.now 0 k) h) (refused ∷ h)) m (count_after r.answer r.count n)
   popped : {h : List Event} {n : ℕ} (κs : Lfts 1) (x : MutBor (List ℕ)) (r : Popped) (m : List ℕ)

@@ -5,8 +5,10 @@
 ghost use Rattle.std.specs.Prelude.{◌≡◌, ℕ, ◌≤◌};
 
 use answers::{FULL, OK};
-use libc::STDOUT_FILENO;
 use range_edit::{Changed, Replaced};
+
+// The descriptor of standard output.
+const STDOUT: i32 = 1;
 
 // 5 calls, 64 sets, 64 second sets or ranges, 5 capacities. In 35,840 of them the set has more ranges than places, and there is nothing to try.
 const CASES: u64 = 102400;
@@ -302,11 +304,11 @@ fn more(n: u64) -> u64 {
 
 // Writes text and a number.
 fn say(text: &[u8], n: u64, tail: &[u8]) {
-    io::write_all(STDOUT_FILENO, text);
+    io::write_all(STDOUT, text);
     let mut digits = [0u8; 20];
     let k = io::decimal(n, &mut digits);
-    io::write_all(STDOUT_FILENO, &digits[..k]);
-    io::write_all(STDOUT_FILENO, tail);
+    io::write_all(STDOUT, &digits[..k]);
+    io::write_all(STDOUT, tail);
 }
 
 fn main() {

@@ -4,6 +4,9 @@
 use events::Event;
 use ledger::State;
 use lines::Feed;
+use std::io::{Error, Read, Result};
+use std::rt::Files;
+use std::{env, fs};
 
 // The lent arrays' sizes are those of `ledger` and `lines`.
 
@@ -65,16 +68,17 @@ fn turn(
     after
 }
 
-// What is left to write is written; a write that failed is told.
-fn finish(out: &mut [u8; 65536], mut at: usize) {
+// What is left to write is written. A write that failed, now or before, is the error.
+fn finish(out: &mut [u8; 65536], mut at: usize) -> Result<()> {
     out::flush(out, &mut at);
     if at == out::FAILED {
-        os::fail(b"standard output");
+        return Err(Error::other("standard output: a write failed"));
     }
+    Ok(())
 }
 
-// A proved loop has to end, and nothing says that a file does: the turns count down from a number that no run uses up.
-fn run(fd: i32) {
+// A proved loop has to end, and nothing says that a file does: the turns are as many as no run uses up.
+fn run<R: Read>(source: &mut R) -> Result<()> {
     let mut buf = io::large_buffer();
     let mut out = io::large_buffer();
     let mut bytes = io::large_buffer();
@@ -85,10 +89,8 @@ fn run(fd: i32) {
     let mut feed = lines::begin();
     let mut state = ledger::begin();
     let mut at = 0;
-    let mut turns = u64::MAX;
-    while turns > 0 {
-        turns -= 1;
-        feed = lines::next(fd, &mut buf, feed);
+    for _ in 0..u64::MAX {
+        feed = lines::next(source, &mut buf, feed);
         state = turn(
             feed,
             &buf,
@@ -102,28 +104,27 @@ fn run(fd: i32) {
             &mut at,
         );
         if lines::END <= feed.kind {
-            finish(&mut out, at);
-            return;
+            return finish(&mut out, at);
+        }
+    }
+    Ok(())
+}
+
+// The file, or an error that names it.
+fn open<R: Files + Alloc>(rt: &R, path: &str) -> Result<R::File> {
+    match fs::open(rt, path) {
+        Ok(file) => Ok(file),
+        Err(e) => {
+            let words = format!(in rt.alloc(); "{e}: {path}")?;
+            Err(Error::new(e.kind(), words.as_str()))
         }
     }
 }
 
-fn main() {
-    if os::arg_count() < 2 {
-        run(libc::STDIN_FILENO);
-        return;
+fn main(rt: HostRuntime) -> Result<()> {
+    let mut args = env::args(&rt)?;
+    match args.nth(1) {
+        Some(path) => run(&mut open(&rt, path.as_str())?),
+        None => run(&mut rt.stdin()),
     }
-    let mut path = io::buffer();
-    let length = os::arg(1, &mut path);
-    if os::errno() != 0 {
-        os::fail(b"path");
-        return;
-    }
-    let fd = os::open_read(&path[..length]);
-    if fd < 0 {
-        os::fail(&path[..length]);
-        return;
-    }
-    run(fd);
-    libc::close(fd);
 }

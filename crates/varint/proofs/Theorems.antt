@@ -39,7 +39,7 @@ digits_bytes (suc n) x rest =
     let a : bytes (suc (suc n)) x ++ rest ≡ bytes (suc n) (x / 256) ++ (x % 256 ∷ rest) = append_assoc (bytes (suc n) (x / 256)) (x % 256 ∷ []) rest in
     let i : digits (bytes (suc (suc n)) x ++ rest) n ≡ x / 256 % (64 * 256 ^ n) = ap (λ (s : List ℕ). digits s n) a ∙ digits_bytes n (x / 256) (x % 256 ∷ rest) in
     let g : get_or (bytes (suc (suc n)) x ++ rest) (suc n) 0 ≡ x % 256 =
-        ap (λ (s : List ℕ). get_or s (suc n) 0) a ∙ get_or_at (bytes (suc n) (x / 256)) (x % 256) rest 0 (suc n) (length_bytes (suc n) (x / 256)) in
+    ap (λ (s : List ℕ). get_or s (suc n) 0) a ∙ get_or_at (bytes (suc n) (x / 256)) (x % 256) rest 0 (suc n) (length_bytes (suc n) (x / 256)) in
     let m : x % (64 * 256 ^ n * 256) ≡ x / 256 % (64 * 256 ^ n) * 256 + x % 256 = mod-mul x {m = 64 * 256 ^ n} {c = 256} (omega (arith, one-le-pow n 256 (lit< tt))) (lit< tt) in
     ap (λ (d : ℕ). d * 256 + get_or (bytes (suc (suc n)) x ++ rest) (suc n) 0) i ∙ ap (λ (d : ℕ). x / 256 % (64 * 256 ^ n) * 256 + d) g ∙ sym (ap (λ (d : ℕ). x % d) e ∙ m)
 

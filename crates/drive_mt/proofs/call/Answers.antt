@@ -3,10 +3,6 @@ use Rattle.drive_mt.proofs.Laws.{calls}
 use borrow.Author.Rules.{rules}
 use Rattle.drive_mt.proofs.call.Goals as goal
 
-on-peer-max-udp-payload-size-received-requires :
-    tie.Need-on-peer-max-udp-payload-size-received-requires
-on-peer-max-udp-payload-size-received-requires c κs = tt
-
 pub poll_transmit-requires : goal.poll_transmit-requires
 poll_transmit-requires c = tt
 
@@ -45,6 +41,9 @@ quiet-requires-in-147 c = tt
 
 pub size-requires-in-149 : goal.size-requires-in-149
 size-requires-in-149 c = tt
+
+pub on_peer_max_udp_payload_size_received-requires : goal.on_peer_max_udp_payload_size_received-requires
+on_peer_max_udp_payload_size_received-requires c = tt
 
 pub quiet-requires-in-149 : goal.quiet-requires-in-149
 quiet-requires-in-149 c = tt

@@ -4,6 +4,4 @@ use borrow.Author.Rules.{rules}
 use Rattle.print.proofs.number.Goals as goal
 
 pub returns : goal.returns
-returns c =
-    let q = c.spell-i in
-    number_put _ _ q.new.1.0 q.result _ c.text.ensures (search rules) q.ensures.1
+returns c = number_put _ _ c.spell-i.new.d c.spell-i.result _ c.text.ensures (search rules) c.spell-i.ensures.1

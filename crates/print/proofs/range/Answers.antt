@@ -5,6 +5,4 @@ use Rattle.print.proofs.range.Goals as goal
 
 pub returns : goal.returns
 returns c =
-    let p = c.spell-i in
-    let q = c.spell-j in
-    range_put _ _ p.new.1.0 p.result _ q.new.1.0 q.result _ c.three.ensures (search rules) p.ensures.1 (search rules) q.ensures.1
+    range_put _ _ c.spell-i.new.d c.spell-i.result _ c.spell-j.new.d c.spell-j.result _ c.three.ensures (search rules) c.spell-i.ensures.1 (search rules) c.spell-j.ensures.1

@@ -25,5 +25,5 @@ returns-in-42 c = numbers_is _ _ _ _ 42 c.in-42.is c.take_pairs.ensures
 
 pub returns-in_default : goal.returns-in_default
 returns-in_default c =
-    let r = c.in_default.rest in
+    let r = c.in_default.in_default-own.rest in
     numbers_none _ _ _ _ r.0.0.0.0.1 r.0.0.0.1 r.0.0.1 r.0.1 r.1

@@ -1,0 +1,15 @@
+-- `read_number` meets its contract. The part that is lent lies within what it is a part of. Assumes nothing.
+use mathlib.Core.Path.{sym}
+use lib.Seq.{length-take-le}
+use borrow.Author.Rules.{rules}
+use Rattle.drive_leaf.proofs.Laws.{strings}
+use Rattle.drive_leaf.proofs.read_number.Goals as goal
+
+pub returns-then-bytes-size : goal.returns-then-bytes-size
+returns-then-bytes-size c = search (rules, strings)
+
+pub slice_bounds-expand-end : goal.slice_bounds-expand-end
+slice_bounds-expand-end c = sym (length-take-le _ _ (search rules))
+
+pub returns : goal.returns
+returns c = search (rules, strings)

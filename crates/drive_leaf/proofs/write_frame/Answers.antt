@@ -1,0 +1,21 @@
+-- `write_frame` meets its contract: a law for each return. The parts that are lent lie within what they are parts of. Assumes nothing.
+use mathlib.Core.Path.{sym}
+use lib.Seq.{length-take-le}
+use borrow.Author.Rules.{rules}
+use Rattle.drive_leaf.proofs.Laws.{writes}
+use Rattle.drive_leaf.proofs.write_frame.Goals as goal
+
+pub returns-then-count-lt2 : goal.returns-then-count-lt2
+returns-then-count-lt2 c = search (rules, writes)
+
+pub returns-then-numbers-count : goal.returns-then-numbers-count
+returns-then-numbers-count c = search (rules, writes)
+
+pub returns-then-scratch-end : goal.returns-then-scratch-end
+returns-then-scratch-end c = search (rules, writes)
+
+pub slice_bounds-write-end-2 : goal.slice_bounds-write-end-2
+slice_bounds-write-end-2 c = sym (length-take-le _ _ (search rules))
+
+pub returns : goal.returns
+returns c = search (rules, writes)

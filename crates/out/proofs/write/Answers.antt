@@ -1,0 +1,10 @@
+-- `out::write` meets its contract. All was written, or a write failed. Assumes nothing.
+use mathlib.Core.Path.{refl}
+use mathlib.Core.Logic.{inl, inr}
+use Rattle.out.proofs.write.Goals as goal
+
+pub returns-then-write_all : goal.returns-then-write_all
+returns-then-write_all c = inl refl
+
+pub returns : goal.returns
+returns c = inr refl
