@@ -2,11 +2,11 @@
 -- Assumes nothing.
 use mathlib.Core.Path.{◌≡◌, refl, ap, sym, ◌∙◌}
 use mathlib.Core.Bool.{Bool, true, false, ◌||◌, or-true, or-false}
-use Prim.Native.Nat.{ℕ, zero, ◌+◌, ◌-◌, ◌*◌, ◌/◌, ◌%◌, ◌^◌, ◌≤◌, ◌<◌, max}
+use Prim.Native.Nat.{ℕ, ◌+◌, ◌-◌, ◌*◌, ◌/◌, ◌%◌, ◌^◌, ◌≤◌, ◌<◌, max}
 use native.Mathlib.Omega.{arith}
 use native.Mathlib.Nat.{max-eq_left, max-eq_right, lt_of_lt_of_le, lt_of_le_of_lt, mod-lt}
 use native.Mathlib.Decide.{dec_lt}
-use lib.Dec.{eqb, ltb, leb, lit<, lit≤}
+use lib.Dec.{eqb, lit<, lit≤}
 use lib.Pow.{pow_mono, pow-lt, shr_le}
 use lib.Bits.{bit_or, or_lt}
 use borrow.Author.Tests.{lt-ltb, le-ltb, le-leb, lt-leb, eq-eqb, ne_eqb}

@@ -1,5 +1,5 @@
 -- Each public promise fixes its outcome: the record and all lent memory. Assumes nothing.
-use mathlib.Core.Path.{◌≡◌, refl, sym, ap, ◌∙◌}
+use mathlib.Core.Path.{refl, sym, ap, ◌∙◌}
 use Rattle.answers.proofs.Promise.{Whole}
 use Rattle.ledger_lists.proofs.begin as begin
 use Rattle.ledger_lists.proofs.step as step

@@ -1,5 +1,5 @@
 -- Each public promise fixes its outcome: the record and the lent memory. Assumes nothing.
-use mathlib.Core.Path.{◌≡◌, refl, sym, ap, ◌∙◌}
+use mathlib.Core.Path.{refl, sym, ap, ◌∙◌}
 use Rattle.answers.proofs.Promise.{Whole}
 use Rattle.ledger_peers.proofs.begin as begin
 use Rattle.ledger_peers.proofs.step as step

@@ -1,5 +1,4 @@
 -- 01's cases and RFC 9000's examples (appendix A.2 and A.3), and the edges of the definitions: each computes.
-use Prim.Native.Nat.{◌-◌}
 use mathlib.Core.Path.{◌≡◌, refl}
 use mathlib.Core.List.{[], ◌∷◌}
 use Rattle.answers.specs.Answers.{OK, SHORT, RANGE, ROOM}

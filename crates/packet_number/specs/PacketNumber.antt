@@ -2,7 +2,7 @@
 -- Writing goes by the text of 17.1 (more than twice the distance), and not by A.2's pseudocode, which takes one byte at distance 128.
 -- Reading goes by A.3, term by term. A.3's differences may be below zero, so each of its comparisons is written here as one of sums.
 -- Assumes nothing.
-use Rattle.std.specs.Prelude.{ℕ, zero, suc, ◌+◌, ◌-◌, ◌*◌, ◌/◌, ◌%◌, ◌^◌, ◌<◌, ◌≤◌, ◌≡◌, Bool, cond, ◌&&◌, ◌⊎◌, List, [], ◌∷◌, ◌++◌, length, get_or, drop, ltb, leb}
+use Rattle.std.specs.Prelude.{ℕ, zero, suc, ◌+◌, ◌-◌, ◌*◌, ◌/◌, ◌%◌, ◌^◌, ◌<◌, ◌≤◌, ◌≡◌, Bool, cond, ◌&&◌, ◌⊎◌, List, ◌++◌, length, get_or, drop, ltb, leb}
 use Rattle.answers.specs.Answers.{OK, SHORT, RANGE, ROOM}
 use Rattle.big_endian.specs.Bytes.{bytes}
 use Rattle.packet_number.specs.declared.Encoded.{Encoded}

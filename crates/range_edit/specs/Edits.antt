@@ -1,7 +1,7 @@
 -- What the set's operations make of a list of ranges (01, Range set), by recursion on the list, and what a call leaves in memory.
 -- The theorems that these are the sets meant are in proofs/: Insert.antt, Remove.antt, Within.antt, Changes.antt.
 -- Assumes nothing.
-use Rattle.std.specs.Prelude.{ℕ, zero, suc, ◌+◌, ◌/◌, ◌≤◌, ◌<◌, min, max, Bool, true, false, cond, not, ◌&&◌, ◌||◌, List, [], ◌∷◌, ◌++◌, length, ltb, leb}
+use Rattle.std.specs.Prelude.{ℕ, ◌+◌, ◌/◌, min, max, Bool, true, false, cond, ◌&&◌, ◌||◌, List, [], ◌∷◌, length, ltb, leb}
 use Rattle.answers.specs.Answers.{OK, FULL}
 use Rattle.range_list.specs.Ranges.{Range, read, flat, over}
 use Rattle.range_edit.specs.declared.Changed.{Changed}

@@ -1,6 +1,6 @@
 -- Two outcomes that meet an inner function's promise, of arguments that its callers keep in good form, are the same: the result and the lent lists.
 -- Assumes nothing.
-use mathlib.Core.Path.{refl, sym, ap, ◌∙◌}
+use mathlib.Core.Path.{sym, ap, ◌∙◌}
 use Rattle.answers.proofs.Promise.{Fixed}
 use Rattle.range_many.proofs.merge as merge
 

@@ -5,18 +5,18 @@ use mathlib.Core.Path.{◌≡◌, refl, sym, ap, ◌∙◌}
 use mathlib.Core.Bool.{Bool, true, false, ◌&&◌}
 use mathlib.Core.Logic.{◌⊎◌, inl, inr, ⊎_elim}
 use mathlib.Core.List.{List, [], ◌∷◌}
-use Prim.Native.Nat.{ℕ, ◌+◌, ◌-◌, ◌≤◌, ◌<◌}
+use Prim.Native.Nat.{ℕ, ◌+◌, ◌≤◌, ◌<◌}
 use native.Mathlib.Omega.{arith}
 use lib.Dec.{leb}
 use borrow.Author.Tests.{le-leb}
 use Rattle.range_list.specs.Ranges.{Range, sound, In}
-use Rattle.range_list.proofs.Sound.{by_lt, by_bool, both, Sound, sound_parts, sound_made, sound_weaker}
+use Rattle.range_list.proofs.Sound.{by_lt, by_bool, Sound, sound_parts, sound_made, sound_weaker}
 use Rattle.range_list.proofs.Canon.{canonical}
 use Rattle.range_edit.specs.Edits.{insert, remove, covers}
 use Rattle.range_edit.proofs.Insert.{insert_to, insert_from}
 use Rattle.range_edit.proofs.Remove.{remove_to, remove_from_law}
 use Rattle.range_edit.proofs.Changes.{covers_in}
-use Rattle.range_many.specs.Many.{edited, edit_all, Spares, Loose, FineAll, spared, joined_to, joined, squeezed}
+use Rattle.range_many.specs.Many.{edited, edit_all, Spares, Loose, FineAll, spared, joined_to, squeezed}
 use Rattle.range_many.proofs.Sizes.{edited_sound}
 
 -- ---- the numbers of all edits

@@ -4,7 +4,7 @@ use Prim.{Unit, tt}
 use mathlib.Core.Path.{◌≡◌, refl, ap}
 use mathlib.Core.Bool.{Bool, true, false, cond}
 use mathlib.Core.List.{List, [], ◌∷◌}
-use Prim.Native.Nat.{ℕ, ◌+◌, ◌-◌, ◌^◌, ◌≤◌, ◌<◌, min, max}
+use Prim.Native.Nat.{ℕ, ◌+◌, ◌^◌, ◌≤◌, ◌<◌, min, max}
 use native.Mathlib.Nat.{max-eq_right}
 use native.Mathlib.Omega.{arith}
 use lib.ListN.{length}

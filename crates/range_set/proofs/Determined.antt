@@ -1,5 +1,5 @@
 -- Two outcomes that both meet a public function's promise are the same, and no public function asks anything of its caller: each promise is one equation.
-use mathlib.Core.Path.{◌≡◌, refl, sym, ap, ◌∙◌}
+use mathlib.Core.Path.{refl, sym, ap, ◌∙◌}
 use Rattle.answers.proofs.Promise.{Whole}
 use Rattle.range_set.proofs.contains as contains
 use Rattle.range_set.proofs.insert_one as insert_one_law

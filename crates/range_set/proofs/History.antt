@@ -5,7 +5,7 @@ use mathlib.Core.Path.{◌≡◌, refl, sym, subst}
 use mathlib.Core.Bool.{Bool, true, false, cond, not}
 use mathlib.Core.Logic.{◌⊎◌, inl, inr, ⊎_elim}
 use mathlib.Core.List.{List, [], ◌∷◌}
-use Prim.Native.Nat.{ℕ, ◌+◌, ◌-◌, ◌/◌, ◌^◌, ◌≤◌, ◌<◌}
+use Prim.Native.Nat.{ℕ, ◌+◌, ◌/◌, ◌^◌, ◌≤◌, ◌<◌}
 use native.Mathlib.Omega.{arith}
 use lib.ListN.{length}
 use lib.Dec.{ltb, leb}
@@ -24,7 +24,7 @@ use Rattle.range_edit.proofs.Insert.{insert_to, insert_from, insert_sound}
 use Rattle.range_edit.proofs.Remove.{remove_to, remove_from_law, remove_sound}
 use Rattle.range_many.specs.Many.{edit_all, idle_all, merge_into}
 use Rattle.range_list.proofs.Sound as sounds
-use Rattle.range_set.specs.Set.{valid, on_range, on_sets, insert_range, remove_range, replace_range, Pop, pop, pop_first, pop_min, Cap, lowest_out, cappable, insert_capped}
+use Rattle.range_set.specs.Set.{valid, on_range, on_sets, insert_range, remove_range, replace_range, Pop, pop_first, pop_min, Cap, lowest_out, cappable, insert_capped}
 use Rattle.range_set.specs.declared.Popped.{Popped}
 use Rattle.range_set.specs.declared.Capped.{Capped}
 use Rattle.range_set.specs.History.{Event, put, cut, refused, Holds}

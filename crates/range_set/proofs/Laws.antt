@@ -12,7 +12,7 @@ use borrow.Author.Tests.{le-ltb, lt-ltb, le-leb, lt-leb, leb-true}
 use Rattle.range_list.specs.Ranges.{Range, range_at, read, flat, over, sound, well_formed, splice}
 use Rattle.range_list.proofs.Sound.{by_lt, Sound, sound_parts, Formed, formed}
 use Rattle.range_list.proofs.Sound as sounds
-use Rattle.range_edit.specs.Edits.{Done, stay, refuse, insert, covers, head_covers, both, refuse_both, replace_in}
+use Rattle.range_edit.specs.Edits.{Done, stay, refuse, covers, head_covers, both, refuse_both, replace_in}
 use Rattle.range_list.proofs.Laws.{read_step, length_read}
 use Rattle.range_edit.proofs.Insert.{Passed, covers_head}
 use Rattle.range_set.specs.declared.Bound.{Bound}

@@ -1,11 +1,10 @@
 -- The two forms agree: on tables that hold the same records, `stop` on words and `stop` on a slice of records give the same answer and connection, and leave the same records. Case by case both are made of the same definitions.
 -- Assumes nothing.
 use mathlib.Core.Path.{◌≡◌, refl, ap, sym, ◌∙◌}
-use mathlib.Core.Bool.{Bool, true, false, cond, ◌&&◌}
-use mathlib.Core.List.{List, [], ◌∷◌}
-use Prim.Native.Nat.{ℕ, zero, suc, ◌+◌, ◌*◌, ◌-◌, ◌^◌, ◌≤◌, ◌<◌}
-use native.Mathlib.Omega.{arith}
-use lib.Dec.{eqb, ltb, leb}
+use mathlib.Core.Bool.{Bool, true, false, cond}
+use mathlib.Core.List.{List}
+use Prim.Native.Nat.{ℕ, zero, suc, ◌*◌, ◌≤◌, ◌<◌}
+use lib.Dec.{eqb}
 use lib.ListN.{length, take, set}
 use lib.Seq.{take-set-lt}
 use borrow.Author.Tests.{le-leb}
@@ -13,16 +12,14 @@ use Rattle.stream_record.specs.declared.Stream.{Stream}
 use Rattle.stream_record.specs.declared.Step.{Step}
 use Rattle.stream_record.specs.Record.{halted}
 use Rattle.stream_conn.specs.declared.Conn.{Conn}
-use Rattle.stream_conn.specs.declared.Done.{Done}
-use Rattle.stream_conn.specs.Books.{admitted, good_conn}
 use Rattle.stream_table.specs.declared.Found.{Found}
 use Rattle.stream_table.specs.declared.Entry.{Entry}
 use Rattle.stream_table.specs.declared.Entry.TheVariants.{No, Absent, Place}
-use Rattle.stream_table.specs.Table.{rec_at, put_rec, recs_from, records, good_from, sound_b, find_from, find_in, placed, entered}
+use Rattle.stream_table.specs.Table.{rec_at, recs_from, records, sound_b, find_from, find_in, placed, entered}
 use Rattle.stream_table.proofs.Tables.{by_cond, records_store, found_below}
 use Rattle.stream_table.proofs.Entries.{entry_told}
-use Rattle.streams.specs.Calls.{After, after, committed, by_entry, on_stream, stop_after}
-use Rattle.stop_table.specs.Slice.{OnSlice, on_slice, sound_on, seek_from, entered_on, committed_on, by_entry_on, stop_on}
+use Rattle.streams.specs.Calls.{After, committed, by_entry, on_stream, stop_after}
+use Rattle.stop_table.specs.Slice.{OnSlice, sound_on, seek_from, entered_on, committed_on, by_entry_on, stop_on}
 
 -- the place that `find` finds, with its record
 placed_from : (l : List ℕ) (k m id : ℕ) → placed l (find_from k (recs_from k m l) id) ≡ seek_from k (recs_from k m l) id

@@ -3,18 +3,17 @@
 use mathlib.Core.Path.{◌≡◌, refl, ap, sym, ◌∙◌}
 use mathlib.Core.Bool.{Bool, true, false, cond, ◌&&◌}
 use mathlib.Core.List.{List, [], ◌∷◌}
-use Prim.Native.Nat.{ℕ, zero, suc, ◌+◌, ◌-◌, ◌^◌, ◌≤◌, ◌<◌, min}
+use Prim.Native.Nat.{ℕ, zero, suc, ◌+◌, ◌-◌, ◌^◌, ◌≤◌, min}
 use native.Mathlib.Omega.{arith}
 use lib.Dec.{eqb, ltb, leb}
 use lib.ListN.{length, get_or, take, drop, set}
 use lib.Seq.{drop-cons, set_out}
-use borrow.Author.Tests.{leb-true, ltb-true}
+use borrow.Author.Tests.{leb-true}
 use Rattle.stream_record.specs.declared.Stream.{Stream}
 use Rattle.stream_record.specs.declared.Step.{Step}
 use Rattle.stream_record.specs.Record.{none, halted}
 use Rattle.stream_conn.specs.declared.Conn.{Conn}
-use Rattle.stream_conn.specs.declared.Done.{Done}
-use Rattle.stream_conn.specs.Books.{admitted, good_conn, paid}
+use Rattle.stream_conn.specs.Books.{admitted, good_conn}
 use Rattle.stream_table.specs.declared.Entry.{Entry}
 use Rattle.stream_table.specs.declared.Entry.TheVariants.{No, Absent, Place}
 use Rattle.stream_table.specs.Table.{theirs, good_rec, good_from, sum_ends}

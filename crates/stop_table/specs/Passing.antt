@@ -6,7 +6,6 @@ use Rattle.stream_record.specs.declared.Stream.{Stream}
 use Rattle.stream_record.specs.declared.Step.{Step}
 use Rattle.stream_record.specs.Record.{none, halted}
 use Rattle.stream_conn.specs.declared.Conn.{Conn}
-use Rattle.stream_conn.specs.declared.Done.{Done}
 use Rattle.stream_conn.specs.Books.{admitted, good_conn, paid, refused_done}
 use Rattle.stream_table.specs.declared.Entry.{Entry}
 use Rattle.stream_table.specs.declared.Entry.TheVariants.{No, Absent, Place}

@@ -1,16 +1,14 @@
 -- Laws of a varint: its width by the first byte, how large its digits are, its shortest length, and what is left in a buffer.
-use Prim.Native.Nat.{ℕ, zero, suc, ◌+◌, ◌-◌, ◌*◌, ◌/◌, ◌%◌, ◌^◌, ◌<◌, ◌≤◌}
-use mathlib.Core.Path.{◌≡◌, refl, ap, sym, ◌∙◌, subst}
-use mathlib.Core.Bool.{Bool, true, false}
-use mathlib.Core.Logic.{◌⊎◌, inl, inr}
+use Prim.Native.Nat.{ℕ, zero, suc, ◌+◌, ◌-◌, ◌*◌, ◌/◌, ◌^◌, ◌<◌, ◌≤◌}
+use mathlib.Core.Path.{◌≡◌, ap, sym, ◌∙◌, subst}
 use mathlib.Core.List.{List, ◌++◌}
 use native.Mathlib.Omega.{arith}
 use native.Mathlib.Nat.{pow-suc, pow-le-pow_right, le_refl}
 use lib.Seq.{take_all}
 use lib.ListN.{get_or, length, take, drop, length-drop}
-use lib.Dec.{lit<, ltb}
+use lib.Dec.{lit<}
 use lib.Pow.{pow_mono, pow_pos}
-use borrow.Author.Tests.{lt-ltb, le-ltb, le-leb, lt-leb, ltb-true, ltb-false}
+use borrow.Author.Tests.{lt-ltb, le-ltb, le-leb, lt-leb}
 use Rattle.answers.specs.Answers.{SHORT, RANGE, ROOM}
 use Rattle.big_endian.specs.Bytes.{bytes, put_bytes}
 use Rattle.big_endian.proofs.Laws.{put_all}

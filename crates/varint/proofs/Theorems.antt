@@ -7,7 +7,7 @@ use mathlib.Core.List.{List, [], ◌∷◌, ◌++◌, append_assoc}
 use native.Mathlib.Omega.{arith}
 use native.Mathlib.Nat.{zero-add, pow-suc, one-le-pow}
 use lib.Dec.{lit<}
-use lib.ListN.{get_or, length, take, drop, length-append}
+use lib.ListN.{get_or, length, take, drop}
 use lib.Seq.{get_or_at, take-suc}
 use lib.Arith.{mod-mul}
 use lib.Pow.{pow-lt}

@@ -2,7 +2,7 @@
 -- first; the top two bits of the first byte are the base-2 logarithm of that length, and the other bits are the number. A reader takes every
 -- length; a writer takes the least that holds the number. Bytes are numbers, and a buffer is the list of its bytes.
 -- Assumes nothing.
-use Rattle.std.specs.Prelude.{ℕ, zero, suc, ◌+◌, ◌-◌, ◌*◌, ◌/◌, ◌%◌, ◌^◌, ◌<◌, ◌≤◌, List, [], ◌∷◌, ◌++◌, cond, length, get_or, drop, ltb, leb}
+use Rattle.std.specs.Prelude.{ℕ, zero, suc, ◌+◌, ◌-◌, ◌*◌, ◌/◌, ◌%◌, ◌^◌, ◌<◌, ◌≤◌, List, ◌++◌, cond, length, get_or, drop, ltb, leb}
 use Rattle.answers.specs.Answers.{SHORT, RANGE, ROOM}
 use Rattle.big_endian.specs.Bytes.{bytes}
 use Rattle.varint.specs.declared.Got.{Got}

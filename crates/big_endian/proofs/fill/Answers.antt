@@ -1,5 +1,5 @@
 -- `big_endian::fill` meets its contract. What is left to write and what is written make up the whole: one byte a turn, the last first.
-use Prim.Native.Nat.{ℕ, ◌-◌}
+use Prim.Native.Nat.{ℕ}
 use mathlib.Core.Path.{◌≡◌, ap, sym, ◌∙◌}
 use mathlib.Core.List.{◌++◌}
 use lib.ListN.{drop, length-set}

@@ -1,5 +1,5 @@
 -- The bits gathered are those of the bytes passed, one turn each.
-use Prim.Native.Nat.{ℕ, ◌-◌}
+use Prim.Native.Nat.{ℕ}
 use mathlib.Core.Path.{ap, ◌∙◌}
 use lib.ListN.{get_or}
 use lib.Bits.{bit_or, bit_xor}

@@ -1,6 +1,6 @@
 -- `digits` meets its contract. The loop's invariant: the value is the number that the bytes passed are, which is below their window.
 -- The measure is how many bytes are left.
-use Prim.Native.Nat.{◌-◌, ◌<◌}
+use Prim.Native.Nat.{◌<◌}
 use mathlib.Core.Path.{◌≡◌, ap, ◌∙◌, refl}
 use lib.ListN.{get_or}
 use native.Mathlib.Omega.{arith}

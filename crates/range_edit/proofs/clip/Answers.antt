@@ -1,7 +1,6 @@
 -- `clip` meets its contract: after k turns the parts of k ranges are written over what was there.
 use Rattle.range_edit.proofs.Laws.{clip_turn}
 use mathlib.Core.Path.{◌≡◌, refl, ◌∙◌}
-use Prim.Native.Nat.{◌-◌}
 use lib.ListN.{length-set}
 use borrow.Author.Rules.{rules}
 use native.Mathlib.Omega.{arith}

@@ -1,6 +1,5 @@
 -- `covered` meets its contract: its tests are those of the first range of what is read.
 use Rattle.range_edit.proofs.Laws.{head_none, head_after, head_short, head_all}
-use Prim.Native.Nat.{◌-◌}
 use Rattle.range_edit.proofs.covered.Goals as goal
 
 pub returns-then-count-i : goal.returns-then-count-i

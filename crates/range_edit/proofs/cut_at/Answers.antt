@@ -1,7 +1,6 @@
 -- `cut_at` meets its contract: the cut of the rest from here is that of the whole.
 use Rattle.range_edit.proofs.Laws.{cut_stop, cut_on, cut_end}
 use mathlib.Core.Path.{refl, sym, ◌∙◌}
-use Prim.Native.Nat.{◌-◌}
 use borrow.Author.Rules.{rules}
 use Rattle.range_edit.proofs.cut_at.Goals as goal
 

@@ -1,7 +1,6 @@
 -- `grow` meets its contract: what the rest grows from here is what the whole grows from the start.
 use Rattle.range_edit.proofs.Laws.{grown_stop, grown_on, grown_end}
 use mathlib.Core.Path.{refl, sym, ◌∙◌}
-use Prim.Native.Nat.{◌-◌}
 use borrow.Author.Rules.{rules}
 use Rattle.range_edit.proofs.grow.Goals as goal
 

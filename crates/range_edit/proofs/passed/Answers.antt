@@ -1,7 +1,6 @@
 -- `passed` meets its contract: the ranges passed and those that the rest would pass are those of the whole list.
 use Rattle.range_list.proofs.Sound.{formed}
 use Rattle.range_edit.proofs.Laws.{below_stop, below_on, below_end, sub_zero_below}
-use Prim.Native.Nat.{◌-◌}
 use borrow.Author.Rules.{rules}
 use Rattle.range_edit.proofs.passed.Goals as goal
 

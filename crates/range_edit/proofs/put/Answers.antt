@@ -1,6 +1,5 @@
 -- `put` meets its contract: the place and what touches are found, and an insert is the splice there.
 -- what is known after each call
-use Prim.Native.Nat.{◌-◌}
 use mathlib.Core.Path.{sym, ◌∙◌}
 use native.Mathlib.Omega.{arith}
 use Rattle.range_list.proofs.Sound.{Formed, formed}

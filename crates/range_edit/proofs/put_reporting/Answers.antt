@@ -1,6 +1,6 @@
 -- `put_reporting` meets its contract: both lists are planned before either is written.
 -- what is known after each call
-use Prim.Native.Nat.{◌+◌, ◌-◌}
+use Prim.Native.Nat.{◌+◌}
 use native.Mathlib.Omega.{arith}
 use Rattle.range_list.proofs.Sound.{Formed, formed}
 use Rattle.range_edit.proofs.Insert.{Passed, passed}

@@ -1,6 +1,6 @@
 -- `take_out` meets its contract: of the ranges that meet s..e only the ends of the first and the last are left, and a remove is that splice.
 -- what is known after each call
-use Prim.Native.Nat.{ℕ, ◌+◌, ◌-◌, ◌/◌, ◌≤◌}
+use Prim.Native.Nat.{ℕ, ◌+◌, ◌/◌, ◌≤◌}
 use mathlib.Core.List.{List}
 use native.Mathlib.Omega.{arith}
 use lib.ListN.{length}

@@ -1,6 +1,5 @@
 -- `move_down` meets its contract: after i turns the list is the entry list with i numbers pasted.
 use mathlib.Core.Path.{◌≡◌, refl, ◌∙◌}
-use Prim.Native.Nat.{◌-◌}
 use lib.ListN.{drop, length-set}
 use lib.Seq.{paste-zero}
 use Rattle.range_list.proofs.Moves.{down_turn}

@@ -1,7 +1,7 @@
 -- `move_up` meets its contract: with i numbers left to move, the list is the entry list with the others pasted.
 use native.Mathlib.Nat.{sub_self, add-zero, sub-zero}
 use mathlib.Core.Path.{◌≡◌, refl, ◌∙◌}
-use Prim.Native.Nat.{◌+◌, ◌-◌}
+use Prim.Native.Nat.{◌+◌}
 use lib.ListN.{drop, length-set}
 use lib.Seq.{paste-zero}
 use Rattle.range_list.proofs.Moves.{up_turn}

@@ -1,7 +1,6 @@
 -- `shift` meets its contract: it is one of the two moves, and a move to where the part stands is none.
 use Rattle.range_list.proofs.Moves.{paste_same}
 use mathlib.Core.Path.{◌≡◌, sym}
-use Prim.Native.Nat.{◌-◌}
 use native.Mathlib.Omega.{arith}
 use Rattle.range_list.proofs.shift.Goals as goal
 

@@ -1,6 +1,5 @@
 -- `splice_one` meets its contract: a move of the ranges after the gap and two stores are the splice.
 use Rattle.range_list.proofs.Laws.{splice_one_is}
-use Prim.Native.Nat.{◌-◌}
 use lib.ListN.{length-set}
 use borrow.Author.Rules.{rules}
 use native.Mathlib.Omega.{arith}

@@ -1,6 +1,5 @@
 -- `well_formed` meets its contract: what is left to test ascends exactly where the whole list is sound.
 use mathlib.Core.Path.{sym, ◌∙◌}
-use Prim.Native.Nat.{◌-◌}
 use native.Mathlib.Omega.{arith}
 use borrow.Author.Tests.{lt-leb}
 use Rattle.range_list.proofs.Ascending.{ascends_all, ascends_on, ascends_stop, ascends_end, none_formed}

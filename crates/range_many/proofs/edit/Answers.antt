@@ -1,7 +1,6 @@
 -- `edit` meets its contract: it is one of the two, by `taking`.
 use mathlib.Core.Path.{sym, ap, ◌∙◌}
 use mathlib.Core.Bool.{Bool}
-use Prim.Native.Nat.{◌-◌}
 use Rattle.range_many.specs.Many.{edit_into}
 use Rattle.range_many.proofs.edit.Goals as goal
 

@@ -1,6 +1,5 @@
 -- `edit_all` meets its contract: the ranges still to come make of the list what all make of the first, and each list is written over the first.
 use Rattle.range_many.proofs.Laws.{go_start, go_turn, go_end, range_at_law}
-use Prim.Native.Nat.{◌-◌}
 use native.Mathlib.Omega.{arith}
 use Rattle.range_list.proofs.Sound.{Formed, formed}
 use Rattle.range_many.proofs.edit_all.Goals as goal

@@ -2,7 +2,7 @@
 use borrow.Author.Rules.{rules}
 use Rattle.range_many.proofs.Laws.{range_at_law, ties_on, ties_end, ties_most}
 use mathlib.Core.Path.{ap, ◌∙◌}
-use Prim.Native.Nat.{ℕ, ◌-◌}
+use Prim.Native.Nat.{ℕ}
 use Rattle.range_list.specs.Ranges.{read}
 use Rattle.range_many.specs.Many.{ties}
 use native.Mathlib.Omega.{arith}

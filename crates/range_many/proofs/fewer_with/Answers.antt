@@ -1,6 +1,5 @@
 -- `fewer_with` meets its contract: so many ranges fewer as touch s..e.
 use Rattle.range_many.proofs.Laws.{fewer_with_is}
-use Prim.Native.Nat.{◌-◌}
 use Rattle.range_list.proofs.Sound.{Formed, formed}
 use Rattle.range_edit.proofs.Insert.{Passed, passed, Reached, reached}
 use Rattle.range_many.proofs.fewer_with.Goals as goal

@@ -1,6 +1,6 @@
 -- `fewer_without` meets its contract: of the ranges that meet s..e only the two ends are left.
 use Rattle.range_many.proofs.Laws.{fewer_without_none, fewer_without_some}
-use Prim.Native.Nat.{◌+◌, ◌-◌}
+use Prim.Native.Nat.{◌+◌}
 use native.Mathlib.Omega.{arith}
 use Rattle.range_list.proofs.Sound.{Formed, formed}
 use Rattle.range_edit.proofs.Insert.{Passed, passed}

@@ -2,7 +2,7 @@
 use borrow.Author.Rules.{rules}
 use Rattle.range_many.proofs.Laws.{range_at_law, idle_stop, idle_on, idle_end}
 use mathlib.Core.Path.{sym, ap, ◌∙◌}
-use Prim.Native.Nat.{ℕ, ◌-◌}
+use Prim.Native.Nat.{ℕ}
 use Rattle.range_list.specs.Ranges.{read}
 use Rattle.range_many.specs.Many.{idle_all}
 use native.Mathlib.Omega.{arith}

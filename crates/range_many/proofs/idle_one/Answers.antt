@@ -1,7 +1,6 @@
 -- `idle_one` meets its contract: it is one of the two, by `taking`.
 use mathlib.Core.Path.{sym, ap, ◌∙◌}
 use mathlib.Core.Bool.{Bool}
-use Prim.Native.Nat.{◌-◌}
 use Rattle.range_list.specs.Ranges.{read}
 use Rattle.range_many.specs.Many.{idle}
 use Rattle.range_many.proofs.idle_one.Goals as goal

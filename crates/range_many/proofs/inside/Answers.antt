@@ -1,6 +1,5 @@
 -- `inside` meets its contract: only the first range that does not end before s can have all of s..e.
 use Rattle.range_many.proofs.Laws.{inside_is}
-use Prim.Native.Nat.{◌-◌}
 use Rattle.range_list.proofs.Sound.{Formed, formed}
 use Rattle.range_edit.proofs.Insert.{Passed, passed}
 use Rattle.range_many.proofs.inside.Goals as goal

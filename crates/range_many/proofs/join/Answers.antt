@@ -1,7 +1,6 @@
 -- `join` meets its contract: what is written and what is left to join make the whole.
 use Rattle.range_many.proofs.Laws.{join_start, join_none, join_hi, join_lo, join_turn, join_end, gap_at}
 use mathlib.Core.Path.{refl}
-use Prim.Native.Nat.{◌-◌}
 use lib.ListN.{length-set}
 use Rattle.range_list.specs.Ranges.{read}
 use native.Mathlib.Omega.{arith}

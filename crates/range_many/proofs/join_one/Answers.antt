@@ -1,6 +1,5 @@
 -- `join_one` meets its contract: its one test is the definition's.
 use mathlib.Core.Path.{sym, ◌∙◌}
-use Prim.Native.Nat.{◌-◌}
 use lib.ListN.{length-set}
 use native.Mathlib.Omega.{arith}
 use Rattle.range_many.proofs.join_one.Goals as goal

@@ -2,7 +2,6 @@
 use Rattle.range_many.proofs.Laws.{ties_most, merge_none, merge_full, merge_ready, merge_done}
 use mathlib.Core.Path.{◌≡◌, sym, ◌∙◌}
 use mathlib.Core.Bool.{false}
-use Prim.Native.Nat.{◌-◌}
 use Rattle.range_list.specs.Ranges.{read}
 use Rattle.range_many.specs.Many.{idle_all}
 use native.Mathlib.Omega.{arith}

@@ -1,6 +1,6 @@
 -- `outside` meets its contract: a range has a number of s..e exactly where the cut takes one in.
 use Rattle.range_many.proofs.Laws.{outside_is}
-use Prim.Native.Nat.{◌+◌, ◌-◌}
+use Prim.Native.Nat.{◌+◌}
 use Rattle.range_list.proofs.Sound.{Formed, formed}
 use Rattle.range_edit.proofs.Insert.{Passed, passed}
 use Rattle.range_edit.proofs.Remove.{Cutting, cutting}

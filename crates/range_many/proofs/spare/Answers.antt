@@ -1,6 +1,5 @@
 -- `spare` meets its contract: what is written and what is left to test make the whole.
 use Rattle.range_many.proofs.Laws.{spare_start, spare_lo, spare_hi, spare_turn, spare_end, range_at_law}
-use Prim.Native.Nat.{◌-◌}
 use Rattle.range_list.specs.Ranges.{read}
 use native.Mathlib.Omega.{arith}
 use Rattle.range_list.proofs.Sound.{Formed, formed}

@@ -1,7 +1,6 @@
 -- `spare_one` meets its contract: its one test is the definition's.
 use Rattle.range_many.proofs.Laws.{one_skip, one_keep}
 use mathlib.Core.Path.{sym, ◌∙◌}
-use Prim.Native.Nat.{◌-◌}
 use lib.ListN.{length-set}
 use native.Mathlib.Omega.{arith}
 use Rattle.range_many.proofs.spare_one.Goals as goal

@@ -1,7 +1,6 @@
 -- `squeeze` meets its contract: it is one of the two, by `taking`.
 use mathlib.Core.Path.{sym, ap, ◌∙◌}
 use mathlib.Core.Bool.{Bool}
-use Prim.Native.Nat.{◌-◌}
 use lib.ListN.{length}
 use Rattle.range_list.specs.Ranges.{read}
 use Rattle.range_many.specs.Many.{squeezed}

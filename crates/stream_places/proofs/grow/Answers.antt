@@ -21,8 +21,7 @@ pub loop-left-smaller : goal.loop-left-smaller
 loop-left-smaller c = omega (arith, c.loop-left-test.true)
 
 pub loop-left-preserved : goal.loop-left-preserved
-loop-left-preserved c =
-    (
+loop-left-preserved c = (
   omega (arith, c.loop-left.invariant.0, c.loop-left-test.true),
   omega (arith, c.loop-left.invariant.1, c.loop-left-test.true),
   grow_length c.loop-left.table c.loop-left.n c.new-t.result (omega (arith, c.loop-left.invariant.0, c.requires.0, c.loop-left-test.true)) (omega (arith, c.loop-left.invariant.0, c.loop-left.invariant.2, c.requires.1, c.loop-left-test.true)) c.insert.ensures ∙ c.loop-left.invariant.2,
