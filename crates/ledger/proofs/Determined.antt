@@ -1,5 +1,5 @@
 -- Each public promise fixes its outcome: the state and all lent memory. Assumes nothing.
-use mathlib.Core.Path.{◌≡◌, refl, sym, ap, ◌∙◌}
+use mathlib.Core.Path.{refl, sym, ap, ◌∙◌}
 use Rattle.answers.proofs.Promise.{Whole}
 use Rattle.ledger.proofs.begin as begin
 use Rattle.ledger.proofs.step as step
