@@ -36,7 +36,8 @@ PLACES = {
 
 def files(*endings):
     for folder, dirs, names in os.walk(CRATES):
-        dirs[:] = sorted(d for d in dirs if d != "out")
+        # each crate's folder out/ is the toolchain's; there is a crate of that name too
+        dirs[:] = sorted(d for d in dirs if d != "out" or folder == CRATES)
         for name in sorted(names):
             if name.endswith(endings):
                 yield os.path.join(folder, name)

@@ -4,9 +4,10 @@
 use events::Event;
 use ledger::State;
 use lines::Feed;
+use std::env::{Env, FillError};
+use std::fs;
 use std::io::{Error, Read, Result};
 use std::rt::Files;
-use std::{env, fs};
 
 // The lent arrays' sizes are those of `ledger` and `lines`.
 
@@ -121,10 +122,15 @@ fn open<R: Files + Alloc>(rt: &R, path: &str) -> Result<R::File> {
     }
 }
 
+// The first argument is the file; with none, standard input is read.
 fn main(rt: HostRuntime) -> Result<()> {
-    let mut args = env::args(&rt)?;
-    match args.nth(1) {
-        Some(path) => run(&mut open(&rt, path.as_str())?),
-        None => run(&mut rt.stdin()),
+    let mut path = io::buffer();
+    match rt.arg(1, &mut path) {
+        Ok(n) => match str::from_utf8(&path[..n]) {
+            Ok(name) => run(&mut open(&rt, name)?),
+            Err(_) => Err(Error::other("path: not UTF-8")),
+        },
+        Err(FillError::NotPresent) => run(&mut rt.stdin()),
+        Err(FillError::TooLong) => Err(Error::other("path: too long")),
     }
 }
