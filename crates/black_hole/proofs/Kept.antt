@@ -1,22 +1,20 @@
 -- Every event keeps a detector well formed: what `good` tests, as facts, holds of what each definition yields, the arguments being in their limits.
 -- At most four bursts are kept, each above the minimum. Assumes nothing.
-use mathlib.Core.Path.{◌≡◌, refl, ap, sym, ◌∙◌}
-use mathlib.Core.Bool.{Bool, true, false, cond, ◌&&◌, ◌||◌}
+use mathlib.Core.Path.{◌≡◌, refl, ◌∙◌}
+use mathlib.Core.Bool.{Bool, true, false, cond}
 use mathlib.Core.Logic.{◌⊎◌, inl, inr, ⊎_elim}
 use mathlib.Core.List.{List}
-use Prim.Native.Nat.{ℕ, ◌+◌, ◌-◌, ◌^◌, ◌≤◌, ◌<◌, min, max}
+use Prim.Native.Nat.{ℕ, ◌+◌, ◌^◌, ◌≤◌, ◌<◌, min, max}
 use native.Mathlib.Omega.{arith}
-use native.Mathlib.Decide.{dec_le, dec_lt}
 use lib.Dec.{eqb, ltb, leb, lit<}
-use lib.ListN.{length, get_or, set, replicate, length-set}
+use lib.ListN.{length, get_or, set, length-set}
 use lib.Seq.{get_or-set_same, get_or-set_other}
-use borrow.Author.Tests.{ltb-true, ltb-false, leb-true, leb-false, eqb-true, lt-ltb, le-ltb, le-leb, lt-leb}
+use borrow.Author.Tests.{ltb-true, lt-ltb, le-ltb, le-leb, lt-leb}
 use Rattle.answers.proofs.Tests.{fst, both, split}
 use Rattle.black_hole.specs.declared.Bursts.{Bursts}
-use Rattle.black_hole.specs.declared.CurrentLossBurst.{CurrentLossBurst}
 use Rattle.black_hole.specs.declared.BlackHoleDetector.{BlackHoleDetector}
 use Rattle.black_hole.specs.declared.Detected.{Detected}
-use Rattle.black_hole.specs.BlackHole.{none, pushed, passed, retained, lower_of, least_of, kept, closed, begun, suspicious, suspected, dropped, finished, fresh, probe_acked, delivered, follows, grown, lost, cleared, detected, good_place, good_bursts, good}
+use Rattle.black_hole.specs.BlackHole.{none, pushed, passed, retained, lower_of, least_of, kept, begun, suspicious, suspected, dropped, finished, fresh, probe_acked, delivered, follows, grown, lost, cleared, detected, good_place, good_bursts, good}
 
 -- ---- the bursts
 pub record Kept (b : Bursts) (least : ℕ) : Type 0 where

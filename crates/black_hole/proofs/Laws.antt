@@ -4,7 +4,6 @@ use mathlib.Core.Path.{◌≡◌, refl, ap, sym, ◌∙◌}
 use mathlib.Core.Bool.{Bool, true, false, cond, ◌&&◌, ◌||◌}
 use mathlib.Core.List.{List}
 use Prim.Native.Nat.{ℕ, ◌+◌, ◌-◌, ◌^◌, ◌≤◌, ◌<◌, min, max}
-use native.Mathlib.Omega.{arith}
 use lib.Dec.{eqb, ltb, leb}
 use lib.ListN.{get_or, set, replicate}
 use borrow.Author.Tests.{lt-ltb, le-ltb, le-leb, lt-leb, eq-eqb, ne_eqb}
@@ -12,7 +11,7 @@ use Rattle.black_hole.specs.declared.Bursts.{Bursts}
 use Rattle.black_hole.specs.declared.CurrentLossBurst.{CurrentLossBurst}
 use Rattle.black_hole.specs.declared.BlackHoleDetector.{BlackHoleDetector}
 use Rattle.black_hole.specs.declared.Detected.{Detected}
-use Rattle.black_hole.specs.BlackHole.{none, pushed, passed, retained, lower_of, least_of, kept, closed, begun, suspicious, suspected, dropped, finished, fresh, probe_acked, delivered, follows, grown, lost, cleared, detected, good_place, good_bursts, good}
+use Rattle.black_hole.specs.BlackHole.{none, pushed, passed, retained, lower_of, least_of, kept, closed, begun, suspicious, suspected, finished, fresh, probe_acked, delivered, follows, lost, detected, good_place, good_bursts, good}
 
 -- ---- the places
 pub none_is : ◌≡◌ {A = Bursts} (record { sizes = replicate 4 0; count = 0 }) none

@@ -3,14 +3,13 @@
 use mathlib.Core.Path.{◌≡◌, refl, ap, sym, ◌∙◌}
 use mathlib.Core.Bool.{Bool, true, false, cond, not}
 use mathlib.Core.List.{List, [], ◌∷◌}
-use Prim.Native.Nat.{ℕ, zero, suc, ◌+◌, ◌*◌, ◌-◌, ◌%◌, ◌^◌, ◌≤◌, ◌<◌}
+use Prim.Native.Nat.{ℕ, ◌+◌, ◌*◌, ◌-◌, ◌%◌, ◌≤◌, ◌<◌}
 use native.Mathlib.Omega.{arith}
-use lib.Dec.{eqb, ltb}
+use lib.Dec.{eqb}
 use lib.ListN.{length}
-use borrow.Author.Tests.{eq-eqb, ne_eqb, ltb-true, not-true, not-false}
+use borrow.Author.Tests.{eq-eqb, ne_eqb, not-true, not-false}
 use Rattle.stream_record.specs.declared.Stream.{Stream}
 use Rattle.stream_conn.specs.declared.Conn.{Conn}
-use Rattle.stream_conn.specs.Books.{good_conn}
 use Rattle.stream_table.specs.declared.Stripped.{Stripped}
 use Rattle.stream_table.specs.Table.{sound_b, sum_ends, rec_at, put_rec, recs_from, records, Left, left, strip_from, stripped, strip_after}
 use Rattle.stream_table.proofs.Tables.{by_cond, rest_step, rest_end, length_store}

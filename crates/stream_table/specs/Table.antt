@@ -3,7 +3,7 @@
 -- A place is a stream that the peer may still use, granted and not freed, or one of ours that goes both ways. An id that is admitted and has no place is
 -- a closed stream. Everything is said of the words from the first on, so that the table may be any part of a larger block.
 -- Assumes nothing.
-use Rattle.std.specs.Prelude.{ℕ, zero, suc, ◌+◌, ◌*◌, ◌-◌, ◌/◌, ◌%◌, ◌^◌, Bool, true, false, cond, ◌&&◌, ◌||◌, List, [], ◌∷◌, eqb, ltb, leb, get_or, set, length}
+use Rattle.std.specs.Prelude.{ℕ, zero, suc, ◌+◌, ◌*◌, ◌-◌, ◌/◌, ◌%◌, ◌^◌, Bool, cond, ◌&&◌, ◌||◌, List, [], ◌∷◌, eqb, ltb, leb, get_or, set, length}
 use Rattle.answers.specs.Answers.{OK, RANGE}
 use Rattle.stream_record.specs.declared.Stream.{Stream}
 use Rattle.stream_conn.specs.declared.Conn.{Conn}

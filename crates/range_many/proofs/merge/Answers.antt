@@ -37,8 +37,8 @@ returns-then-list-size c =
 
 pub edit_all-requires : goal.edit_all-requires
 edit_all-requires c =
-    merge_ready _ _ _ _ _ (formed-at (goal.at.edit_all-requires c).Start) (other_at (goal.at.edit_all-requires c).Start) (busy (goal.at.edit_all-requires c).Else-idle_all) _ c.fewer_all.ensures c.if-list-size.false _ _ c.squeeze-k.ensures
+    merge_ready _ _ _ _ _ (formed-at (goal.at.edit_all-requires c).Start) (other_at (goal.at.edit_all-requires c).Start) (busy (goal.at.edit_all-requires c).Else-idle_all) _ c.fewer_all.ensures (omega arith) _ _ c.squeeze-k.ensures
 
 pub returns : goal.returns
 returns c =
-    merge_done _ _ _ _ _ (formed-at (goal.at.returns c).Start) (other_at (goal.at.returns c).Start) (busy (goal.at.returns c).Else-idle_all) _ c.fewer_all.ensures c.if-list-size.false _ _ c.squeeze-k.ensures _ c.edit_all.ensures
+    merge_done _ _ _ _ _ (formed-at (goal.at.returns c).Start) (other_at (goal.at.returns c).Start) (busy (goal.at.returns c).Else-idle_all) _ c.fewer_all.ensures (omega arith) _ _ c.squeeze-k.ensures _ c.edit_all.ensures

@@ -2,7 +2,6 @@
 use Rattle.stream_table.proofs.Tables.{check_start, turn_bad, turn_order, turn_over, turn_on, turn_end, good_id, one_most}
 use borrow.Author.Rules.{rules}
 use native.Mathlib.Omega.{arith}
-use Prim.Native.Nat.{◌-◌}
 use mathlib.Core.Path.{sym, ◌∙◌, ap}
 use mathlib.Core.Bool.{not}
 use Rattle.stream_table.proofs.check.Goals as goal
@@ -18,7 +17,7 @@ returns-then-s-low c = turn_order _ _ _ _ _ _ _ _ c.loop-i.invariant.3 c.loop-i-
 
 pub returns-then-left-s : goal.returns-then-left-s
 returns-then-left-s c =
-    turn_over _ _ _ _ _ _ _ _ c.loop-i.invariant.3 c.loop-i-test.true c.load-s.ensures c.good.ensures (ap not c.if-not-good.false) c.if-s-low.false c.if-left-s.true
+    turn_over _ _ _ _ _ _ _ _ c.loop-i.invariant.3 c.loop-i-test.true c.load-s.ensures c.good.ensures (ap not c.if-not-good.false) (omega arith) c.if-left-s.true
 
 pub overflow_add-low : goal.overflow_add-low
 overflow_add-low c = omega (arith, good_id _ _ (sym c.good.ensures ∙ c.if-not-good.false))
@@ -37,7 +36,7 @@ loop-i-smaller c = omega (arith, c.loop-i-test.true)
 
 pub loop-i-preserved : goal.loop-i-preserved
 loop-i-preserved c =
-    (omega (arith, c.loop-i-test.true), omega (arith, c.loop-i.invariant.1, c.count_one-b.ensures, one_most c.args.c 0 c.load-s.result.id), omega (arith, c.loop-i.invariant.2, c.count_one-u.ensures, one_most c.args.c 1 c.load-s.result.id), turn_on _ _ _ _ _ _ _ _ c.loop-i.invariant.3 c.loop-i-test.true c.load-s.ensures c.good.ensures (ap not c.if-not-good.false) c.if-s-low.false c.if-left-s.false c.count_one-b.ensures c.count_one-u.ensures)
+    (omega (arith, c.loop-i-test.true), omega (arith, c.loop-i.invariant.1, c.count_one-b.ensures, one_most c.args.c 0 c.load-s.result.id), omega (arith, c.loop-i.invariant.2, c.count_one-u.ensures, one_most c.args.c 1 c.load-s.result.id), turn_on _ _ _ _ _ _ _ _ c.loop-i.invariant.3 c.loop-i-test.true c.load-s.ensures c.good.ensures (ap not c.if-not-good.false) (omega arith) c.if-left-s.false c.count_one-b.ensures c.count_one-u.ensures)
 
 pub returns : goal.returns
 returns c = turn_end _ _ _ _ _ _ _ _ c.loop-i.invariant.3 c.loop-i-test.false

@@ -1,6 +1,5 @@
 -- `st::find` meets its contract. The invariant: what is found in the records that are left is what is found in all. Assumes nothing.
 use mathlib.Core.Path.{sym, ◌∙◌}
-use Prim.Native.Nat.{◌-◌}
 use borrow.Author.Rules.{rules}
 use Rattle.stream_table.proofs.Tables.{find_start, find_here, find_on, find_end}
 use Rattle.stream_table.proofs.find.Goals as goal

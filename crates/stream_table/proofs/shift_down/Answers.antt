@@ -2,7 +2,6 @@
 use Rattle.stream_table.proofs.Shape.{remove_start, remove_turn, remove_done, length_after}
 use borrow.Author.Rules.{rules}
 use native.Mathlib.Omega.{arith}
-use Prim.Native.Nat.{◌-◌}
 use mathlib.Core.Path.{refl, ◌∙◌}
 use Rattle.stream_table.proofs.shift_down.Goals as goal
 

@@ -1,7 +1,6 @@
 -- The invariant: putting the record in hand among those left, from here on, gives the words that putting the new one among all gives.
 use Rattle.stream_table.proofs.Shape.{insert_start, insert_turn, insert_done, length_after}
 use native.Mathlib.Omega.{arith}
-use Prim.Native.Nat.{◌-◌}
 use mathlib.Core.Path.{refl, ◌∙◌}
 use Rattle.stream_table.proofs.shift_up.Goals as goal
 

@@ -1,7 +1,6 @@
 -- The invariant: what stripping the records that are left comes to, from here, is what stripping all comes to. A record is written at or before its own place, so those left are as they were.
 use Rattle.stream_table.proofs.Strips.{strip_start, sum_start, strip_turn, strip_done, strip_place, strip_length, strip_end, strip_total}
 use native.Mathlib.Omega.{arith}
-use Prim.Native.Nat.{◌-◌}
 use mathlib.Core.Path.{refl, ◌∙◌}
 use Rattle.stream_table.proofs.strip_all.Goals as goal
 
