@@ -1,9 +1,8 @@
 // The answers that every public function gives: 01's table, by number. No other crate has numbers of its own.
 // Every answer but OK comes with zero values, and leaves all lent memory as it was.
-
-// Done.
 #![tactic(auto)]
 
+// Done.
 pub const OK: u8 = 0;
 
 // The input ends inside a field.

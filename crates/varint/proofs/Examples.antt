@@ -92,14 +92,14 @@ pub writes_37 : write_varint (9 ∷ 9 ∷ []) 37 ≡ done (wrote.Len 1) (0x25 �
 unfolding write_varint encode form log_of
 writes_37 = refl
 
-pub writes-2^62-1 : encode (2 ^ 62 - 1) ≡ 0xff ∷ 0xff ∷ 0xff ∷ 0xff ∷ 0xff ∷ 0xff ∷ 0xff ∷ 0xff ∷ []
+pub writes_2^62_less_1 : encode (2 ^ 62 - 1) ≡ 0xff ∷ 0xff ∷ 0xff ∷ 0xff ∷ 0xff ∷ 0xff ∷ 0xff ∷ 0xff ∷ []
 unfolding encode form log_of
-writes-2^62-1 = refl
+writes_2^62_less_1 = refl
 
 -- RANGE before ROOM
-pub refuses-2^62 : write_varint [] (2 ^ 62) ≡ done (wrote.Refused RANGE) []
+pub refuses_2^62 : write_varint [] (2 ^ 62) ≡ done (wrote.Refused RANGE) []
 unfolding write_varint
-refuses-2^62 = refl
+refuses_2^62 = refl
 
 pub refuses_64_in_one : write_varint (9 ∷ []) 64 ≡ done (wrote.Refused ROOM) (9 ∷ [])
 unfolding write_varint log_of
