@@ -1,5 +1,5 @@
--- The reader accepts nothing else: what was read is a form of its number (varint), so a frame that was accepted is one of the grammar, and every
--- refusal has a number that is not OK's. Each definition is taken apart once, into what its success shows and the rest.
+-- The reader accepts nothing else: what was read is a form of its number (varint), so a frame that was accepted is one of the grammar. Each
+-- definition is taken apart once, into what its success shows.
 use Prim.Native.Nat.{ℕ, zero, suc, ◌+◌, ◌-◌, ◌/◌, ◌<◌, ◌≤◌}
 use mathlib.Core.Path.{◌≡◌, refl, ap, sym, ◌∙◌, subst}
 use mathlib.Core.Bool.{false}
@@ -7,27 +7,21 @@ use mathlib.Core.List.{List, [], ◌∷◌, ◌++◌, append_assoc, reverse}
 use native.Mathlib.Omega.{arith}
 use lib.ListN.{length, get_or, drop, take-append-drop}
 use lib.Seq.{get_or-drop, drop-drop}
-use lib.Dec.{ltb, eqb, lit<}
+use lib.Dec.{ltb, eqb}
 use borrow.Author.Tests.{lt-ltb, eqb-true}
-use Rattle.answers.specs.Answers.{OK}
-use Rattle.varint.specs.Varint.{read_varint, form, encode, size_of, log_of}
-use Rattle.varint.specs.declared.Got.{Got}
-use Rattle.varint.specs.declared.Got.TheVariants as got
+use Rattle.std.specs.Prelude.{Result, Ok, Err, IsOk}
+use Rattle.answers.specs.declared.Refusal.{Refusal}
+use Rattle.varint.specs.Varint.{read_varint, decoded, form, encode, size_of, log_of}
+use Rattle.varint.specs.declared.Decoded.{Decoded}
 use Rattle.varint.proofs.Theorems.{read_form, shortest}
-use Rattle.range_list.specs.Ranges.{Range, flat, over}
+use Rattle.range_list.specs.Ranges.{flat, over}
 use Rattle.range_list.proofs.Sound.{by_bool, by_lt}
 use Rattle.ack_frame.specs.Grammar.{Coded, bytes_of, FitsIn, Pair, Frame, pairs_bytes, frame_bytes, next_low, LegalBelow, low_of, ranges_of, Legal}
-use Rattle.ack_frame.specs.Read.{int_of, int_at, kind_at, step_at, walk_of, fields_at, head_of, done, accepted, read_ack}
+use Rattle.ack_frame.specs.Read.{is, int_of, int_at, kind_at, step_at, walk_of, fields_at, head_of, done, accepted, read_ack}
 use Rattle.ack_frame.specs.declared.Int.{Int}
-use Rattle.ack_frame.specs.declared.Int.TheVariants.{Is, Ends}
-use Rattle.ack_frame.specs.declared.Kind.{Kind}
-use Rattle.ack_frame.specs.declared.Kind.TheVariants.{Fields, Other}
-use Rattle.ack_frame.specs.declared.Step.{Step}
-use Rattle.ack_frame.specs.declared.Step.TheVariants as step
-use Rattle.ack_frame.specs.declared.Walk.{Walk}
-use Rattle.ack_frame.specs.declared.Walk.TheVariants as walk
+use Rattle.ack_frame.specs.declared.Below.{Below}
 use Rattle.ack_frame.specs.declared.Head.{Head}
-use Rattle.ack_frame.specs.declared.Head.TheVariants.{Known, Bad}
+use Rattle.ack_frame.specs.declared.Ack.{Ack}
 use Rattle.ack_frame.proofs.Laws.{walk_legal}
 use Rattle.ack_frame.proofs.Exact.{accepts}
 
@@ -38,17 +32,19 @@ record Stands (f : List ℕ) (at v next : ℕ) : Type 0 where
   fits : FitsIn coded
   split : drop at f ≡ bytes_of coded ++ drop next f
 
-abbrev IntView : List ℕ → ℕ → Int → Type 0
-IntView f at (Is v a) = Stands f at v a
-IntView f at Ends = Unit
+abbrev IntView : List ℕ → ℕ → Result Int Refusal → Type 0
+IntView f at (Ok i) = Stands f at i.value i.next
+IntView f at (Err w) = Unit
 
 int_view : (f : List ℕ) → ((k : ℕ) → get_or f k 0 < 256) → (at : ℕ) → IntView f at (int_at f at)
 unfolding int_at
 int_view f h at = by_got (read_varint (drop at f)) refl where
-  by_got : (x : Got) → read_varint (drop at f) ≡ x → IntView f at (int_of at x)
-  by_got (got.Refused w) p = tt
-  by_got (got.Value v n) p =
+  by_got : (x : Result Decoded Refusal) → read_varint (drop at f) ≡ x → IntView f at (int_of at x)
+  by_got (Err w) p = tt
+  by_got (Ok d) p =
       let s = drop at f in
+      let v = d.value in
+      let n = d.len in
       let g = read_form s (λ k. rw (get_or-drop at f k 0) (h (at + k))) v n p in
       record {
         coded = record { value = v; log = g.0 };
@@ -57,32 +53,32 @@ int_view f h at = by_got (read_varint (drop at f)) refl where
         split = sym (take-append-drop n s) ∙ (λ i. g.1.1.1 i ++ drop-drop n at f i);
       }
 
-stands : (f : List ℕ) → ((k : ℕ) → get_or f k 0 < 256) → (at : ℕ) {v a : ℕ} → int_at f at ≡ Is v a → Stands f at v a
+stands : (f : List ℕ) → ((k : ℕ) → get_or f k 0 < 256) → (at : ℕ) {v a : ℕ} → int_at f at ≡ is v a → Stands f at v a
 stands f h at e = subst (IntView f at) e (int_view f h at)
 
 -- the type
 record Typed (f : List ℕ) (a : ℕ) : Type 0 where
-  is_2 : int_at f 0 ≡ Is 2 a
+  is_2 : int_at f 0 ≡ is 2 a
   is_short : a ≡ size_of 2
 
-abbrev KindView : List ℕ → Kind → Type 0
-KindView f (Fields a) = Typed f a
-KindView f (Other w) = 0 < w
+abbrev KindView : List ℕ → Result ℕ Refusal → Type 0
+KindView f (Ok a) = Typed f a
+KindView f (Err w) = Unit
 
 kind_view : (f : List ℕ) → KindView f (kind_at f)
 unfolding kind_at
 kind_view f = by_int (int_at f 0) refl where
-  by_int : (i : Int) → int_at f 0 ≡ i → KindView f (kind_at f)
-  by_int Ends p = rw p (lit< tt)
-  by_int (Is kind a) p =
-      by_bool (eqb a (size_of kind))
-      (λ t. by_bool (eqb kind 2)
+  by_int : (i : Result Int Refusal) → int_at f 0 ≡ i → KindView f (kind_at f)
+  by_int (Err w) p = rw p tt
+  by_int (Ok i) p =
+      by_bool (eqb i.next (size_of i.value))
+      (λ t. by_bool (eqb i.value 2)
       (λ u.
-      let e : kind ≡ 2 = eqb-true kind 2 u in
-      let z : a ≡ size_of kind = eqb-true a (size_of kind) t in
-      rw (p, t, u) (record { is_2 = p ∙ ap (λ (k : ℕ). Is k a) e; is_short = z ∙ ap size_of e }))
-      (λ u. rw (p, t, u) (lit< tt)))
-      (λ t. rw (p, t) (lit< tt))
+      let e : i.value ≡ 2 = eqb-true i.value 2 u in
+      let z : i.next ≡ size_of i.value = eqb-true i.next (size_of i.value) t in
+      rw (p, t, u) (record { is_2 = p ∙ ap (λ (k : ℕ). is k i.next) e; is_short = z ∙ ap size_of e }))
+      (λ u. rw (p, t, u) tt))
+      (λ t. rw (p, t) tt)
 
 -- the four fields
 record Known_as (f : List ℕ) (at e largest delay count low : ℕ) : Type 0 where
@@ -90,39 +86,39 @@ record Known_as (f : List ℕ) (at e largest delay count low : ℕ) : Type 0 whe
   b : ℕ
   d : ℕ
   first : ℕ
-  largest_at : int_at f at ≡ Is largest a
-  delay_at : int_at f a ≡ Is delay b
-  count_at : int_at f b ≡ Is count d
-  first_at : int_at f d ≡ Is first e
+  largest_at : int_at f at ≡ is largest a
+  delay_at : int_at f a ≡ is delay b
+  count_at : int_at f b ≡ is count d
+  first_at : int_at f d ≡ is first e
   in_order : first ≤ largest
   low_is : low ≡ largest - first
 
-abbrev FieldsView : List ℕ → ℕ → Head → Type 0
-FieldsView f at (Known e largest delay count low) = Known_as f at e largest delay count low
-FieldsView f at (Bad w) = 0 < w
+abbrev FieldsView : List ℕ → ℕ → Result Head Refusal → Type 0
+FieldsView f at (Ok h) = Known_as f at h.at h.largest h.delay h.count h.low
+FieldsView f at (Err w) = Unit
 
 fields_view : (f : List ℕ) (at : ℕ) → FieldsView f at (fields_at f at)
 unfolding fields_at
 fields_view f at = one (int_at f at) refl where
-  four : (v1 a v2 b v3 d : ℕ) → int_at f at ≡ Is v1 a → int_at f a ≡ Is v2 b → int_at f b ≡ Is v3 d → (i : Int) → int_at f d ≡ i → FieldsView f at (fields_at f at)
-  four v1 a v2 b v3 d p q r Ends s = rw (p, q, r, s) (lit< tt)
-  four v1 a v2 b v3 d p q r (Is v4 e) s =
-      by_lt v1 v4
-      (λ t u. rw (p, q, r, s, u) (lit< tt))
+  four : (x y z : Int) → int_at f at ≡ Ok x → int_at f x.next ≡ Ok y → int_at f y.next ≡ Ok z → (i : Result Int Refusal) → int_at f z.next ≡ i → FieldsView f at (fields_at f at)
+  four x y z p q r (Err w) s = rw (p, q, r, s) tt
+  four x y z p q r (Ok i) s =
+      by_lt x.value i.value
+      (λ t u. rw (p, q, r, s, u) tt)
       (λ t u. rw (p, q, r, s, u)
-      (record { a = a; b = b; d = d; first = v4; largest_at = p; delay_at = q; count_at = r; first_at = s; in_order = t; low_is = refl }))
+      (record { a = x.next; b = y.next; d = z.next; first = i.value; largest_at = p; delay_at = q; count_at = r; first_at = s; in_order = t; low_is = refl }))
 
-  three : (v1 a v2 b : ℕ) → int_at f at ≡ Is v1 a → int_at f a ≡ Is v2 b → (i : Int) → int_at f b ≡ i → FieldsView f at (fields_at f at)
-  three v1 a v2 b p q Ends r = rw (p, q, r) (lit< tt)
-  three v1 a v2 b p q (Is v3 d) r = four v1 a v2 b v3 d p q r (int_at f d) refl
+  three : (x y : Int) → int_at f at ≡ Ok x → int_at f x.next ≡ Ok y → (i : Result Int Refusal) → int_at f y.next ≡ i → FieldsView f at (fields_at f at)
+  three x y p q (Err w) r = rw (p, q, r) tt
+  three x y p q (Ok i) r = four x y i p q r (int_at f i.next) refl
 
-  two : (v1 a : ℕ) → int_at f at ≡ Is v1 a → (i : Int) → int_at f a ≡ i → FieldsView f at (fields_at f at)
-  two v1 a p Ends q = rw (p, q) (lit< tt)
-  two v1 a p (Is v2 b) q = three v1 a v2 b p q (int_at f b) refl
+  two : (x : Int) → int_at f at ≡ Ok x → (i : Result Int Refusal) → int_at f x.next ≡ i → FieldsView f at (fields_at f at)
+  two x p (Err w) q = rw (p, q) tt
+  two x p (Ok i) q = three x i p q (int_at f i.next) refl
 
-  one : (i : Int) → int_at f at ≡ i → FieldsView f at (fields_at f at)
-  one Ends p = rw p (lit< tt)
-  one (Is v1 a) p = two v1 a p (int_at f a) refl
+  one : (i : Result Int Refusal) → int_at f at ≡ i → FieldsView f at (fields_at f at)
+  one (Err w) p = rw p tt
+  one (Ok i) p = two i p (int_at f i.next) refl
 
 -- the head: the type, and the fields behind it
 record Headed (f : List ℕ) (e largest delay count low : ℕ) : Type 0 where
@@ -130,48 +126,48 @@ record Headed (f : List ℕ) (e largest delay count low : ℕ) : Type 0 where
   typed : Typed f from
   known : Known_as f from e largest delay count low
 
-abbrev HeadView : List ℕ → Head → Type 0
-HeadView f (Known e largest delay count low) = Headed f e largest delay count low
-HeadView f (Bad w) = 0 < w
+abbrev HeadView : List ℕ → Result Head Refusal → Type 0
+HeadView f (Ok h) = Headed f h.at h.largest h.delay h.count h.low
+HeadView f (Err w) = Unit
 
 head_view : (f : List ℕ) → HeadView f (head_of f)
 unfolding head_of
 head_view f = by_kind (kind_at f) refl (kind_view f) where
-  by_head : (a : ℕ) → Typed f a → (h : Head) → FieldsView f a h → HeadView f h
-  by_head a t (Known e largest delay count low) v = record { from = a; typed = t; known = v }
-  by_head a t (Bad w) v = v
+  by_head : (a : ℕ) → Typed f a → (h : Result Head Refusal) → FieldsView f a h → HeadView f h
+  by_head a t (Ok h) v = record { from = a; typed = t; known = v }
+  by_head a t (Err w) v = tt
 
-  by_kind : (k : Kind) → kind_at f ≡ k → KindView f (kind_at f) → HeadView f (head_of f)
-  by_kind (Fields a) p v = rw p (by_head a (rw p at v) (fields_at f a) (fields_view f a))
-  by_kind (Other w) p v = rw p (rw p at v)
+  by_kind : (k : Result ℕ Refusal) → kind_at f ≡ k → KindView f (kind_at f) → HeadView f (head_of f)
+  by_kind (Ok a) p v = rw p (by_head a (rw p at v) (fields_at f a) (fields_view f a))
+  by_kind (Err w) p v = rw p tt
 
 -- a pair
 record Paired (f : List ℕ) (at low next lo : ℕ) : Type 0 where
   gap : ℕ
   mid : ℕ
   len : ℕ
-  gap_at : int_at f at ≡ Is gap mid
-  len_at : int_at f mid ≡ Is len next
+  gap_at : int_at f at ≡ is gap mid
+  len_at : int_at f mid ≡ is len next
   in_order : gap + 2 + len ≤ low
   low_is : lo ≡ low - (gap + 2) - len
 
-abbrev StepView : List ℕ → ℕ → ℕ → Step → Type 0
-StepView f at low (step.Range next lo hi) = Paired f at low next lo
-StepView f at low (step.Refused w) = 0 < w
+abbrev StepView : List ℕ → ℕ → ℕ → Result Below Refusal → Type 0
+StepView f at low (Ok b) = Paired f at low b.next b.lo
+StepView f at low (Err w) = Unit
 
 step_view : (f : List ℕ) (at low : ℕ) → StepView f at low (step_at f at low)
 unfolding step_at
 step_view f at low = one (int_at f at) refl where
-  two : (gap a : ℕ) → int_at f at ≡ Is gap a → gap + 2 ≤ low → ltb low (gap + 2) ≡ false → (i : Int) → int_at f a ≡ i → StepView f at low (step_at f at low)
-  two gap a p g u Ends q = rw (p, u, q) (lit< tt)
-  two gap a p g u (Is len b) q =
-      by_lt (low - (gap + 2)) len
-      (λ t v. rw (p, u, q, v) (lit< tt))
-      (λ t v. rw (p, u, q, v) (record { gap = gap; mid = a; len = len; gap_at = p; len_at = q; in_order = omega arith; low_is = refl }))
+  two : (g : Int) → int_at f at ≡ Ok g → g.value + 2 ≤ low → ltb low (g.value + 2) ≡ false → (i : Result Int Refusal) → int_at f g.next ≡ i → StepView f at low (step_at f at low)
+  two g p o u (Err w) q = rw (p, u, q) tt
+  two g p o u (Ok i) q =
+      by_lt (low - (g.value + 2)) i.value
+      (λ t v. rw (p, u, q, v) tt)
+      (λ t v. rw (p, u, q, v) (record { gap = g.value; mid = g.next; len = i.value; gap_at = p; len_at = q; in_order = omega arith; low_is = refl }))
 
-  one : (i : Int) → int_at f at ≡ i → StepView f at low (step_at f at low)
-  one Ends p = rw p (lit< tt)
-  one (Is gap a) p = by_lt low (gap + 2) (λ t u. rw (p, u) (lit< tt)) (λ t u. two gap a p t u (int_at f a) refl)
+  one : (i : Result Int Refusal) → int_at f at ≡ i → StepView f at low (step_at f at low)
+  one (Err w) p = rw p tt
+  one (Ok g) p = by_lt low (g.value + 2) (λ t u. rw (p, u) tt) (λ t u. two g p t u (int_at f g.next) refl)
 
 -- the pairs that a walk passed, as they stand
 record Walked (f : List ℕ) (n at low e : ℕ) : Type 0 where
@@ -180,14 +176,14 @@ record Walked (f : List ℕ) (n at low e : ℕ) : Type 0 where
   legal : LegalBelow low pairs
   split : drop at f ≡ pairs_bytes pairs ++ drop e f
 
-abbrev WalkView : List ℕ → ℕ → ℕ → ℕ → Walk → Type 0
-WalkView f n at low (walk.Done e) = Walked f n at low e
-WalkView f n at low (walk.Stopped w) = 0 < w
+abbrev WalkView : List ℕ → ℕ → ℕ → ℕ → Result ℕ Refusal → Type 0
+WalkView f n at low (Ok e) = Walked f n at low e
+WalkView f n at low (Err w) = Unit
 
 module _ (f : List ℕ) (h : (k : ℕ) → get_or f k 0 < 256) where
-  one_more : (n at low a lo : ℕ) → Paired f at low a lo → (w : Walk) → WalkView f n a lo w → WalkView f (suc n) at low w
-  one_more n at low a lo p (walk.Stopped w) v = v
-  one_more n at low a lo p (walk.Done e) v =
+  one_more : (n at low a lo : ℕ) → Paired f at low a lo → (w : Result ℕ Refusal) → WalkView f n a lo w → WalkView f (suc n) at low w
+  one_more n at low a lo p (Err w) v = tt
+  one_more n at low a lo p (Ok e) v =
       let g = stands f h at p.gap_at in
       let l = stands f h p.mid p.len_at in
       let x : Pair = record { gap = g.coded; len = l.coded } in
@@ -205,27 +201,30 @@ module _ (f : List ℕ) (h : (k : ℕ) → get_or f k 0 < 256) where
   unfolding walk_of
   walk_view zero at low room = record { pairs = []; counted = refl; legal = tt; split = refl }
   walk_view (suc n) at low room = by_step (walk_view n) (step_at f at low) refl (step_view f at low) where
-    by_step : ((a lo r : ℕ) → WalkView f n a lo (walk_of f n a lo r)) → (s : Step) → step_at f at low ≡ s → StepView f at low (step_at f at low) →
+    by_step : ((a lo r : ℕ) → WalkView f n a lo (walk_of f n a lo r)) → (s : Result Below Refusal) → step_at f at low ≡ s → StepView f at low (step_at f at low) →
         WalkView f (suc n) at low (walk_of f (suc n) at low room)
-    by_step ih (step.Refused w) p v = rw p (rw p at v)
-    by_step ih (step.Range a lo hi) p v =
+    by_step ih (Err w) p v = rw p tt
+    by_step ih (Ok b) p v =
         by_lt 0 room
-        (λ t u. rw (p, u) (one_more n at low a lo (rw p at v) (walk_of f n a lo (room - 1)) (ih a lo (room - 1))))
-        (λ t u. rw (p, u) (lit< tt))
+        (λ t u. rw (p, u) (one_more n at low b.next b.lo (rw p at v) (walk_of f n b.next b.lo (room - 1)) (ih b.next b.lo (room - 1))))
+        (λ t u. rw (p, u) tt)
 
 -- the type's byte
 typed_2 : (f : List ℕ) → ((k : ℕ) → get_or f k 0 < 256) → (a : ℕ) → Typed f a → (a ≡ 1) × (f ≡ 2 ∷ drop 1 f)
 unfolding int_at size_of log_of encode form
 typed_2 f h a t = by_got (read_varint f) refl where
-  by_got : (x : Got) → read_varint f ≡ x → (a ≡ 1) × (f ≡ 2 ∷ drop 1 f)
-  by_got (got.Refused w) p = let y : ◌≡◌ {A = ℕ} 0 1 = cc (sym (ap (int_of 0) p) ∙ t.is_2) in let z : ⊥ = omega arith in absurd z
-  by_got (got.Value v n) p =
-      let q : Is v (0 + n) ≡ Is 2 a = sym (ap (int_of 0) p) ∙ t.is_2 in
-      let i : v ≡ 2 = cc in
-      let j : 0 + n ≡ a = cc in
+  by_got : (x : Result Decoded Refusal) → read_varint f ≡ x → (a ≡ 1) × (f ≡ 2 ∷ drop 1 f)
+  by_got (Err w) p = let y : ◌≡◌ {A = ℕ} 0 1 = cc (sym (ap (int_of 0) p) ∙ t.is_2) in let z : ⊥ = omega arith in absurd z
+  by_got (Ok d) p =
+      let v = d.value in
+      let n = d.len in
+      let q : is v (0 + n) ≡ is 2 a = sym (ap (int_of 0) p) ∙ t.is_2 in
+      let m : ◌≡◌ {A = Int} (record { value = v; next = 0 + n }) (record { value = 2; next = a }) = cc in
+      let i : v ≡ 2 = ap (λ x. x.value) m in
+      let j : 0 + n ≡ a = ap (λ x. x.next) m in
       let a1 : a ≡ 1 = t.is_short in
       let n1 : n ≡ 1 = omega arith in
-      let r : read_varint f ≡ got.Value 2 1 = p ∙ (λ m. got.Value (i m) (n1 m)) in
+      let r : read_varint f ≡ Ok (decoded 2 1) = p ∙ (λ m. Ok (decoded (i m) (n1 m))) in
       (a1, sym (take-append-drop 1 f) ∙ ap (λ (s : List ℕ). s ++ drop 1 f) (shortest f h 2 1 r refl))
 
 -- A frame that was accepted: which frame of the grammar it is, what follows it, and that its ranges fit.
@@ -273,38 +272,35 @@ module _ (f l : List ℕ) (h : (k : ℕ) → get_or f k 0 < 256) where
       }
 
   -- Nothing but a frame of the grammar whose ranges fit is accepted.
-  pub only : (read_ack f l).out.answer ≡ OK → Accepted f l
+  pub only : (a : Ack) → (read_ack f l).out ≡ Ok a → Accepted f l
   unfolding read_ack
-  only q = by_head (head_of f) refl (head_view f) where
-    by_walk : (e largest delay count low : ℕ) → head_of f ≡ Known e largest delay count low → Headed f e largest delay count low → 0 < length l / 2 →
-        (w : Walk) → walk_of f count e low (length l / 2 - 1) ≡ w → WalkView f count e low (walk_of f count e low (length l / 2 - 1)) → Accepted f l
-    by_walk e largest delay count low p t o (walk.Stopped w) r v =
-        let z : w ≡ 0 = rw (p, lt-ltb 0 (length l / 2) o, r) at q in
-        let u : 0 < w = rw r at v in
-        let y : ⊥ = omega arith in
-        absurd y
-    by_walk e largest delay count low p t o (walk.Done x) r v =
-        let u : Walked f count e low x = rw r at v in
-        let m = (walk_legal f count e low (length l / 2 - 1) r).0 in
+  only a q = by_head (head_of f) refl (head_view f) where
+    by_walk : (k : Head) → head_of f ≡ Ok k → HeadView f (Ok k) → 0 < length l / 2 →
+        (w : Result ℕ Refusal) → walk_of f k.count k.at k.low (length l / 2 - 1) ≡ w → WalkView f k.count k.at k.low (walk_of f k.count k.at k.low (length l / 2 - 1)) → Accepted f l
+    by_walk k p t o (Err w) r v = let z = rw (p, lt-ltb 0 (length l / 2) o, r) at q in let y : ⊥ = cc in absurd y
+    by_walk k p t o (Ok x) r v =
+        let u : Walked f k.count k.at k.low x = rw r at v in
+        let m = (walk_legal f k.count k.at k.low (length l / 2 - 1) r).0 in
         made t u (omega arith)
 
-    by_head : (k : Head) → head_of f ≡ k → HeadView f (head_of f) → Accepted f l
-    by_head (Bad w) p v =
-        let z : w ≡ 0 = rw p at q in
-        let u : 0 < w = rw p at v in
-        let y : ⊥ = omega arith in
-        absurd y
-    by_head (Known e largest delay count low) p v =
+    by_head : (k : Result Head Refusal) → head_of f ≡ k → HeadView f (head_of f) → Accepted f l
+    by_head (Err w) p v = let z = rw p at q in let y : ⊥ = cc in absurd y
+    by_head (Ok k) p v =
         by_lt 0 (length l / 2)
-        (λ o u. by_walk e largest delay count low p (rw p at v) o (walk_of f count e low (length l / 2 - 1)) refl (walk_view f h count e low (length l / 2 - 1)))
-        (λ o u. let z : ◌≡◌ {A = ℕ} 5 0 = rw (p, u) at q in let y : ⊥ = omega arith in absurd y)
+        (λ o u. by_walk k p (rw p at v) o (walk_of f k.count k.at k.low (length l / 2 - 1)) refl (walk_view f h k.count k.at k.low (length l / 2 - 1)))
+        (λ o u. let z = rw (p, u) at q in let y : ⊥ = cc in absurd y)
 
 -- What is answered of such a frame, and what the list then holds.
 pub accepted_is : (f l : List ℕ) (a : Accepted f l) →
     read_ack f l
-    ≡ done (accepted (length a.frame.pairs + 1) a.frame.largest.value a.frame.delay.value (length (frame_bytes a.frame))) (over (flat (reverse (ranges_of a.frame))) l)
+    ≡ done (Ok (accepted (length a.frame.pairs + 1) a.frame.largest.value a.frame.delay.value (length (frame_bytes a.frame)))) (over (flat (reverse (ranges_of a.frame))) l)
 accepted_is f l a = ap (λ (x : List ℕ). read_ack x l) a.starts ∙ accepts a.frame a.legal a.rest l a.fits
 
+-- an answer that is no refusal has its values
+answered : (r : Result Ack Refusal) → IsOk r → (a : Ack) × (r ≡ Ok a)
+answered (Ok a) h = (a, refl)
+answered (Err w) h = let y : ⊥ = cc in absurd y
+
 -- The reader accepts exactly the frames of the grammar whose ranges fit the list.
-pub exact : (f l : List ℕ) → ((k : ℕ) → get_or f k 0 < 256) → ((read_ack f l).out.answer ≡ OK → Accepted f l) × (Accepted f l → (read_ack f l).out.answer ≡ OK)
-exact f l h = (only f l h, λ a. ap (λ d. d.out.answer) (accepted_is f l a))
+pub exact : (f l : List ℕ) → ((k : ℕ) → get_or f k 0 < 256) → (IsOk (read_ack f l).out → Accepted f l) × (Accepted f l → IsOk (read_ack f l).out)
+exact f l h = (λ o. let a = answered (read_ack f l).out o in only f l h a.0 a.1, λ a. rw (accepted_is f l a) refl)

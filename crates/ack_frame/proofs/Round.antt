@@ -9,6 +9,7 @@ use native.Mathlib.Omega.{arith}
 use native.Mathlib.Nat.{le_refl, zero-add}
 use lib.ListN.{length, get_or, take, length-append}
 use borrow.Author.Tests.{le-leb}
+use Rattle.std.specs.Prelude.{Ok}
 use Rattle.varint.specs.Varint.{Fits, log_of}
 use Rattle.varint.proofs.Theorems.{short_fits}
 use Rattle.range_list.specs.Ranges.{Range, range_at, read, flat, over, sound, well_formed}
@@ -16,7 +17,8 @@ use Rattle.range_list.proofs.Laws.{length_read, read_snoc}
 use Rattle.range_list.proofs.Sound.{sound_parts, sound_made, sound_weaker, formed}
 use Rattle.range_list.proofs.Kept.{read_over, formed_over}
 use Rattle.ack_frame.specs.Grammar.{Descends, Coded, short, Shortest, Pair, Frame, frame_bytes, next_low, ranges_below, LegalBelow, low_of, ranges_of, Legal, ShortBelow, ShortFrame, pairs_for, frame_for, frame_of}
-use Rattle.ack_frame.specs.Read.{done, accepted, refusal, read_ack, taken_of}
+use Rattle.ack_frame.specs.Read.{done, accepted, read_ack, taken_of}
+use Rattle.ack_frame.specs.declared.Ack.{Ack}
 use Rattle.ack_frame.proofs.Laws.{length_reverse}
 use Rattle.ack_frame.proofs.Exact.{accepts}
 use Rattle.ack_frame.proofs.Only.{Accepted, accepted_is}
@@ -100,12 +102,12 @@ module _ (r : Range) (rs : List Range) (delay : ℕ) (d : Descends (2 ^ 62 + 1) 
 
   -- It is read back, whatever follows it.
   pub reads_back : (tail l : List ℕ) → length rs < length l / 2 →
-      read_ack (frame_of (r ∷ rs) delay ++ tail) l ≡ done (accepted (length rs + 1) (r.hi - 1) delay (length (frame_of (r ∷ rs) delay))) (over (flat (reverse (r ∷ rs))) l)
+      read_ack (frame_of (r ∷ rs) delay ++ tail) l ≡ done (Ok (accepted (length rs + 1) (r.hi - 1) delay (length (frame_of (r ∷ rs) delay)))) (over (flat (reverse (r ∷ rs))) l)
   unfolding frame_of
   reads_back tail l k =
       let n = below_for.1.1 in
       accepts (frame_for r rs delay) frame_legal tail l (omega arith)
-      ∙ (λ j. done (accepted (n j + 1) (r.hi - 1) delay (length (frame_bytes (frame_for r rs delay)))) (over (flat (reverse (frame_acks j))) l))
+      ∙ (λ j. done (Ok (accepted (n j + 1) (r.hi - 1) delay (length (frame_bytes (frame_for r rs delay))))) (over (flat (reverse (frame_acks j))) l))
 
 -- The last range of a list, the highest, comes first in a frame.
 pub highest_first : (s : List ℕ) (m : ℕ) → reverse (read s 0 (m + 1)) ≡ range_at s m ∷ reverse (read s 0 m)
@@ -122,7 +124,7 @@ formed_descends s m w = subst (Descends (2 ^ 62 + 1)) (highest_first s m) (sound
 -- What is written of a well_formed_law set of m + 1 ranges is read as that set and delay, whatever follows it.
 pub round : (s : List ℕ) (m delay : ℕ) → well_formed s (m + 1) ≡ true → delay < 2 ^ 62 → (tail l : List ℕ) → m < length l / 2 →
     let bs = frame_of (reverse (read s 0 (m + 1))) delay in
-    read_ack (bs ++ tail) l ≡ done (accepted (m + 1) (get_or s (m * 2 + 1) 0 - 1) delay (length bs)) (over (flat (read s 0 (m + 1))) l)
+    read_ack (bs ++ tail) l ≡ done (Ok (accepted (m + 1) (get_or s (m * 2 + 1) 0 - 1) delay (length bs))) (over (flat (read s 0 (m + 1))) l)
 round s m delay w h tail l k =
     let r = range_at s m in
     let rs = reverse (read s 0 m) in
@@ -131,7 +133,7 @@ round s m delay w h tail l k =
     let b = reads_back r rs delay (formed_descends s m w) h tail l (omega arith) in
     let z : reverse (r ∷ rs) ≡ read s 0 (m + 1) = ap reverse (sym e) ∙ reverse-reverse (read s 0 (m + 1)) in
     ap (λ (x : List Range). read_ack (frame_of x delay ++ tail) l) e ∙ b
-    ∙ (λ j. done (accepted (n j + 1) (r.hi - 1) delay (length (frame_of (sym e j) delay))) (over (flat (z j)) l))
+    ∙ (λ j. done (Ok (accepted (n j + 1) (r.hi - 1) delay (length (frame_of (sym e j) delay)))) (over (flat (z j)) l))
 
 -- An integer in its shortest form is what is written for its number.
 coded_again : (v : ℕ) (c : Coded) → v ≡ c.value → Shortest c → short v ≡ c
@@ -182,45 +184,47 @@ legal_descends g o =
     (omega arith, (omega arith, below_descends (low_of g) g.pairs o.pairs_low))
 
 -- what an accepted frame leaves
-module _ (f l : List ℕ) (a : Accepted f l) where
+module _ (f l : List ℕ) (a : Accepted f l) {r : Ack} (e : (read_ack f l).out ≡ Ok r) where
   many : length (reverse (ranges_of a.frame)) ≡ length a.frame.pairs + 1
   many = length_reverse (ranges_of a.frame) ∙ rw (length_ranges (low_of a.frame) a.frame.pairs) (omega arith)
 
+  r_is : r ≡ accepted (length a.frame.pairs + 1) a.frame.largest.value a.frame.delay.value (length (frame_bytes a.frame))
+  r_is = let o = ap (λ d. d.out) (accepted_is f l a) in cc
+
   -- What was read is a well_formed_law set, not an empty one, and its delay is in range: the writer takes it.
-  pub read_formed : well_formed (read_ack f l).mem (read_ack f l).out.count ≡ true
+  pub read_formed : well_formed (read_ack f l).mem r.count ≡ true
   read_formed =
       let rs = reverse (ranges_of a.frame) in
       let n = many in
       let k = a.fits in
       let s = formed_over rs l (omega arith) (descends_sound (ranges_of a.frame) (legal_descends a.frame a.legal)) in
-      rw (accepted_is f l a) (rw n at s)
+      rw (accepted_is f l a, r_is) (rw n at s)
 
-  pub read_some : 0 < (read_ack f l).out.count
-  read_some = rw (accepted_is f l a) (omega arith)
+  pub read_some : 0 < r.count
+  read_some = rw r_is (omega arith)
 
-  pub read_delay : (read_ack f l).out.delay < 2 ^ 62
-  read_delay = rw (accepted_is f l a) (fits_limit a.frame.delay.log a.frame.delay.value a.legal.delay_fits)
+  pub read_delay : r.delay < 2 ^ 62
+  read_delay = rw r_is (fits_limit a.frame.delay.log a.frame.delay.value a.legal.delay_fits)
 
   -- A frame whose fields are all in shortest form, read and rewritten, gives the same bytes.
-  pub rewritten : ShortFrame a.frame →
-      frame_of (reverse (read (read_ack f l).mem 0 (read_ack f l).out.count)) (read_ack f l).out.delay ≡ take (read_ack f l).out.taken f
+  pub rewritten : ShortFrame a.frame → frame_of (reverse (read (read_ack f l).mem 0 r.count)) r.delay ≡ take r.taken f
   rewritten s =
       let g = a.frame in
       let rs = reverse (ranges_of g) in
       let b : read (over (flat rs) l) 0 (length g.pairs + 1) ≡ rs = ap (λ (n : ℕ). read (over (flat rs) l) 0 n) (sym many) ∙ read_over rs l in
       let t : take (length (frame_bytes g)) f ≡ frame_bytes g = ap (take (length (frame_bytes g))) a.starts ∙ take_at (frame_bytes g) a.rest (length (frame_bytes g)) refl in
-      rw (accepted_is f l a) (rw b (ap (λ (x : List Range). frame_of x g.delay.value) (reverse-reverse (ranges_of g)) ∙ frame_again g a.legal s ∙ sym t))
+      rw (accepted_is f l a, r_is) (rw b (ap (λ (x : List Range). frame_of x g.delay.value) (reverse-reverse (ranges_of g)) ∙ frame_again g a.legal s ∙ sym t))
 
   -- The part handed back is the frame's bytes.
-  pub part_taken : taken_of f (read_ack f l).out ≡ frame_bytes a.frame
+  pub part_taken : taken_of f r ≡ frame_bytes a.frame
   unfolding taken_of
   part_taken =
       let g = a.frame in
-      let e : length f ≡ length (frame_bytes g) + length a.rest = ap length a.starts ∙ length-append (frame_bytes g) a.rest in
+      let q : length f ≡ length (frame_bytes g) + length a.rest = ap length a.starts ∙ length-append (frame_bytes g) a.rest in
       let h : length (frame_bytes g) ≤ length f = omega arith in
-      rw (accepted_is f l a, le-leb (length (frame_bytes g)) (length f) h) (ap (take (length (frame_bytes g))) a.starts ∙ take_at (frame_bytes g) a.rest (length (frame_bytes g)) refl)
+      rw (r_is, le-leb (length (frame_bytes g)) (length f) h) (ap (take (length (frame_bytes g))) a.starts ∙ take_at (frame_bytes g) a.rest (length (frame_bytes g)) refl)
 
--- Where the frame was refused it is empty.
-pub part_none : (f : List ℕ) (w : ℕ) → taken_of f (refusal w) ≡ []
+-- Where no byte was taken it is empty; a frame that was refused has no values, so no part.
+pub part_none : (f : List ℕ) (a : Ack) → a.taken ≡ 0 → taken_of f a ≡ []
 unfolding taken_of
-part_none f w = rw (le-leb 0 (length f) (omega arith))
+part_none f a e = rw (e, le-leb 0 (length f) (omega arith))

@@ -11,26 +11,41 @@ use lib.Seq.{drop-drop, length-take-le, take_at, drop_at, set_split}
 use borrow.Author.Tests.{le-leb, lt-leb, lt-ltb, le-ltb}
 use borrow.Rule.Slice.PartMut.{put_mid}
 use Rattle.answers.proofs.Tests.{split}
-use Rattle.answers.specs.Answers.{OK, RANGE, ROOM}
+use Rattle.std.specs.Prelude.{Result, Ok, Err}
+use Rattle.answers.specs.declared.Refusal.{Refusal}
+use Rattle.answers.specs.declared.Refusal.TheVariants as why
 use Rattle.varint.specs.Varint.{encode, len_of, write_varint}
+use Rattle.varint.specs.Varint as varint
 use Rattle.varint.proofs.Laws.{rest, log_0, log_1, log_2, log_3}
-use Rattle.varint.proofs.Theorems.{leaves, length_encode}
+use Rattle.varint.proofs.Theorems.{length_encode}
 use Rattle.range_list.specs.Ranges.{Range, range_at, read, well_formed}
 use Rattle.ack_frame.specs.Grammar.{pairs_bytes, pairs_for, Descends, frame_of}
 use Rattle.ack_frame.proofs.Round.{highest_first, length_descending, formed_descends}
-use Rattle.ack_write.specs.Write.{put, pairs_of, Ordered, head_bytes, refusal, done, fitted, write_ack}
-use Rattle.ack_write.specs.declared.Written.{Written}
+use Rattle.ack_write.specs.Write.{put, pairs_of, Ordered, head_bytes, done, fitted, write_ack}
 
--- the part `&mut out[at..]` comes back with v at its start
-pub put_back : (l : List ℕ) (at v : ℕ) {ys : List ℕ} → v < 2 ^ 62 → at + len_of v ≤ length l →
-    ys ≡ (write_varint (take (length l - at) (drop at l)) v).mem → put_mid at (length l - at) l ys ≡ put l at (encode v)
-unfolding put
-put_back l at v {ys} h r q =
-    let d = length-drop at l in
-    let k : len_of v ≤ length (drop at l) = omega arith in
-    let y : ys ≡ encode v ++ drop (at + len_of v) l = q ∙ ap (λ (t : List ℕ). (write_varint t v).mem) (rest l at) ∙ leaves v (drop at l) h k ∙ ap (λ (t : List ℕ). encode v ++ t) (drop-drop (len_of v) at l) in
-    let o : drop (length l - at) (drop at l) ≡ [] = drop_of_length-le (drop at l) {i = length l - at} (omega arith) in
-    rw (o, y, append-nil, length_encode)
+-- what a write of a number below the limit comes to where there is room
+written_is : (l : List ℕ) (v : ℕ) → v < 2 ^ 62 → len_of v ≤ length l → write_varint l v ≡ varint.done (Ok (len_of v)) (encode v ++ drop (len_of v) l)
+unfolding write_varint
+written_is l v h k = rw (lt-ltb v (2 ^ 62) h, le-leb (len_of v) (length l) k)
+
+-- the part `&mut out[at..]` comes back with v at its start, by what the write of it answered
+module _ (l : List ℕ) (at v : ℕ) {r : Result ℕ Refusal} {ys : List ℕ} (h : v < 2 ^ 62) (o : at + len_of v ≤ length l)
+    (q : varint.done r ys ≡ write_varint (take (length l - at) (drop at l)) v) where
+  part_is : varint.done r ys ≡ varint.done (Ok (len_of v)) (encode v ++ drop (len_of v) (drop at l))
+  part_is =
+      let d = length-drop at l in
+      q ∙ ap (λ (t : List ℕ). write_varint t v) (rest l at) ∙ written_is (drop at l) v h (omega arith)
+
+  pub len_back : r ≡ Ok (len_of v)
+  len_back = ap (λ d. d.out) part_is
+
+  pub put_back : put_mid at (length l - at) l ys ≡ put l at (encode v)
+  unfolding put
+  put_back =
+      let d = length-drop at l in
+      let y : ys ≡ encode v ++ drop (at + len_of v) l = ap (λ d. d.mem) part_is ∙ ap (λ (t : List ℕ). encode v ++ t) (drop-drop (len_of v) at l) in
+      let z : drop (length l - at) (drop at l) ≡ [] = drop_of_length-le (drop at l) {i = length l - at} (omega arith) in
+      rw (z, y, append-nil, length_encode)
 
 -- two writes one after the other are one.
 pub put_put : (l xs ys : List ℕ) (at : ℕ) → at + length xs + length ys ≤ length l → put (put l at xs) (at + length xs) ys ≡ put l at (xs ++ ys)
@@ -179,27 +194,27 @@ yes_is_true false e = sym e
 
 -- what write answers and leaves, in each of its cases
 module _ (out l : List ℕ) (count delay : ℕ) where
-  pub none_set : {r : Written} → count ≡ 0 → r ≡ refusal RANGE → done r out ≡ write_ack out l count delay
+  pub none_set : count ≡ 0 → done (Err why.Range) out ≡ write_ack out l count delay
   unfolding write_ack
-  none_set e p = rw (e, p)
+  none_set e = rw e
 
   module _ (c : 0 < count) where
-    pub late : {r : Written} → 2 ^ 62 ≤ delay → r ≡ refusal RANGE → done r out ≡ write_ack out l count delay
+    pub late : 2 ^ 62 ≤ delay → done (Err why.Range) out ≡ write_ack out l count delay
     unfolding write_ack
-    late h p = rw (lt-ltb 0 count c, le-ltb delay (2 ^ 62) h, p)
+    late h = rw (lt-ltb 0 count c, le-ltb delay (2 ^ 62) h)
 
     module _ (h : delay < 2 ^ 62) where
-      pub ill : {r : Written} {b : Bool} → b ≡ well_formed l count → not b ≡ true → r ≡ refusal RANGE → done r out ≡ write_ack out l count delay
+      pub ill : {b : Bool} → b ≡ well_formed l count → not b ≡ true → done (Err why.Range) out ≡ write_ack out l count delay
       unfolding write_ack
-      ill {r} {b} e q p = let w : well_formed l count ≡ false = sym e ∙ no_is_false b q in rw (lt-ltb 0 count c, lt-ltb delay (2 ^ 62) h, w, p)
+      ill {b} e q = let w : well_formed l count ≡ false = sym e ∙ no_is_false b q in rw (lt-ltb 0 count c, lt-ltb delay (2 ^ 62) h, w)
 
       module _ (w : well_formed l count ≡ true) where
-        pub no_room : {r : Written} → length out < length (frame_of (reverse (read l 0 count)) delay) → r ≡ refusal ROOM → done r out ≡ write_ack out l count delay
+        pub no_room : length out < length (frame_of (reverse (read l 0 count)) delay) → done (Err why.Room) out ≡ write_ack out l count delay
         unfolding write_ack fitted
-        no_room k p = rw (lt-ltb 0 count c, lt-ltb delay (2 ^ 62) h, w, lt-leb (length (frame_of (reverse (read l 0 count)) delay)) (length out) k, p)
+        no_room k = rw (lt-ltb 0 count c, lt-ltb delay (2 ^ 62) h, w, lt-leb (length (frame_of (reverse (read l 0 count)) delay)) (length out) k)
 
         pub all_put : {n : ℕ} {m : List ℕ} → length (frame_of (reverse (read l 0 count)) delay) ≤ length out → n ≡ length (frame_of (reverse (read l 0 count)) delay)
-            → m ≡ put out 0 (frame_of (reverse (read l 0 count)) delay) → done (record { answer = OK; len = n }) m ≡ write_ack out l count delay
+            → m ≡ put out 0 (frame_of (reverse (read l 0 count)) delay) → done (Ok n) m ≡ write_ack out l count delay
         unfolding write_ack fitted put
         all_put k e q =
             let bs = frame_of (reverse (read l 0 count)) delay in

@@ -1,12 +1,12 @@
 -- What writing an ACK frame answers and leaves (01, ACK frame; RFC 9000, section 19.3): the bytes of the grammar's frame of the set, with every
 -- integer in its shortest form. The set is a flat list with a count, as range_list holds it.
 -- Assumes nothing.
-use Rattle.std.specs.Prelude.{ℕ, ◌+◌, ◌^◌, List, ◌∷◌, ◌++◌, reverse, cond, ◌&&◌, length, take, drop, leb, ltb}
-use Rattle.answers.specs.Answers.{OK, RANGE, ROOM}
+use Rattle.std.specs.Prelude.{ℕ, ◌+◌, ◌^◌, List, ◌∷◌, ◌++◌, reverse, Result, Ok, Err, cond, ◌&&◌, length, take, drop, leb, ltb}
+use Rattle.answers.specs.declared.Refusal.{Refusal}
+use Rattle.answers.specs.declared.Refusal.TheVariants.{Range, Room}
 use Rattle.varint.specs.Varint.{encode}
 use Rattle.range_list.specs.Ranges.{read, over, well_formed}
 use Rattle.ack_frame.specs.Grammar.{pairs_bytes, pairs_for, Descends, frame_of}
-use Rattle.ack_write.specs.declared.Written.{Written}
 
 -- bs at `at`, in place of what stood there
 unfoldable pub put : List ℕ → ℕ → List ℕ → List ℕ
@@ -25,20 +25,17 @@ head_bytes largest delay count first = 2 ∷ (encode largest ++ (encode delay ++
 
 -- An outcome of writing: the answer, and what the buffer then holds.
 pub record Done : Type 0 where
-  pub out : Written
+  pub out : Result ℕ Refusal
   pub mem : List ℕ
 
-abbrev pub done : Written → List ℕ → Done
+abbrev pub done : Result ℕ Refusal → List ℕ → Done
 done r m = record { out = r; mem = m }
-
-abbrev pub refusal : ℕ → Written
-refusal w = record { answer = w; len = 0 }
 
 -- bs at the start of a buffer, or ROOM
 unfoldable pub fitted : List ℕ → List ℕ → Done
-fitted out bs = cond (leb (length bs) (length out)) (done (record { answer = OK; len = length bs }) (over bs out)) (done (refusal ROOM) out)
+fitted out bs = cond (leb (length bs) (length out)) (done (Ok (length bs)) (over bs out)) (done (Err Room) out)
 
 -- RANGE for an empty or ill-formed set or a delay that is no varint, then ROOM, then the frame at the start with what was behind it as it was.
 unfoldable pub write_ack : List ℕ → List ℕ → ℕ → ℕ → Done
 write_ack out l count delay =
-    cond (ltb 0 count && (ltb delay (2 ^ 62) && well_formed l count)) (fitted out (frame_of (reverse (read l 0 count)) delay)) (done (refusal RANGE) out)
+    cond (ltb 0 count && (ltb delay (2 ^ 62) && well_formed l count)) (fitted out (frame_of (reverse (read l 0 count)) delay)) (done (Err Range) out)

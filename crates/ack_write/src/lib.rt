@@ -6,14 +6,9 @@ ghost use Rattle.std.specs.Prelude.{◌≡◌, true, reverse, ◌+◌, ◌*◌, 
 ghost use Rattle.varint.specs.Varint.{encode, len_of};
 ghost use Rattle.range_list.specs.Ranges.{read, well_formed};
 ghost use Rattle.ack_frame.specs.Grammar.{frame_of};
-ghost use Rattle.ack_write.specs.Write.{put, pairs_of, Ordered, head_bytes, refusal, done, write_ack};
+ghost use Rattle.ack_write.specs.Write.{put, pairs_of, Ordered, head_bytes, done, write_ack};
 
-// What writing did: how many bytes it wrote, 0 unless the answer is OK.
-#[derive(Clone, Copy)]
-pub struct Written {
-    pub answer: u8,
-    pub len: usize,
-}
+use answers::Refusal;
 
 // No delay is as large as this: it would be no varint.
 const LIMIT: u64 = 1 << 62;
@@ -34,21 +29,21 @@ fn put_at(out: &mut [u8], at: usize, v: u64) -> usize
     requires { (v < 2 ^ 62) × (at + len_of v ≤ length out.old) }
     ensures { (result ≡ at + len_of v) × (out.new ≡ put out.old at (encode v)) }
 {
-    let n = len_of(v);
-    varint::write(&mut out[at..], v);
+    let Ok(n) = varint::write(&mut out[at..], v) else {
+        unreachable!()
+    };
     at + n
 }
 
 // How many bytes the pairs of the count lowest ranges take, below a range whose smallest number is least.
+// A pass beside `put_pairs`: this one keeps a sum and that one a place in a lent buffer, so one pass with a closure would be no plainer.
 fn pairs_size(list: &[u64], count: usize, least: u64) -> usize
     requires { (count * 2 ≤ length list.now) × ((least < 2 ^ 62) × Ordered list.now count least) }
     ensures { result ≡ length (pairs_of list.now count least) }
 {
-    let mut n = count;
     let mut low = least;
-    let mut total: usize = 0;
-    while 0 < n {
-        n -= 1;
+    let mut total = 0;
+    for n in (0..count).rev() {
         let lo = list[n * 2];
         let hi = list[n * 2 + 1];
         total += len_of(low - hi - 1) + len_of(hi - 1 - lo);
@@ -62,11 +57,9 @@ fn put_pairs(out: &mut [u8], start: usize, list: &[u64], count: usize, least: u6
     requires { (count * 2 ≤ length list.now) × ((least < 2 ^ 62) × ((start + length (pairs_of list.now count least) ≤ length out.old) × Ordered list.now count least)) }
     ensures { (result ≡ start + length (pairs_of list.now count least)) × (out.new ≡ put out.old start (pairs_of list.now count least)) }
 {
-    let mut n = count;
     let mut low = least;
     let mut at = start;
-    while 0 < n {
-        n -= 1;
+    for n in (0..count).rev() {
         let lo = list[n * 2];
         let hi = list[n * 2 + 1];
         at = put_at(out, at, low - hi - 1);
@@ -117,37 +110,25 @@ fn put_frame(out: &mut [u8], list: &[u64], n: usize, delay: u64)
     put_pairs(out, at, list, n, lo);
 }
 
-fn refused(why: u8) -> Written
-    ensures { result ≡ refusal why }
-{
-    Written {
-        answer: why,
-        len: 0,
-    }
-}
-
 // Writes the ACK frame of the count ranges of list at the start of out: RANGE where the set is empty or ill-formed or the delay no
-// varint, then ROOM where out is too small, and then nothing is written.
-pub fn write(out: &mut [u8], list: &[u64], count: usize, delay: u64) -> Written
+// varint, then ROOM where out is too small, and then nothing is written. The caller lends the list with its count: there is no heap.
+pub fn write(out: &mut [u8], list: &[u64], count: usize, delay: u64) -> Result<usize, Refusal>
     ensures { done result out.new ≡ write_ack out.old list.now count delay }
 {
     if count == 0 {
-        return refused(answers::RANGE);
+        return Err(Refusal::Range);
     }
     if LIMIT <= delay {
-        return refused(answers::RANGE);
+        return Err(Refusal::Range);
     }
     if !range_list::well_formed(list, count) {
-        return refused(answers::RANGE);
+        return Err(Refusal::Range);
     }
     let n = count - 1;
     let len = frame_size(list, n, delay);
     if out.len() < len {
-        return refused(answers::ROOM);
+        return Err(Refusal::Room);
     }
     put_frame(out, list, n, delay);
-    Written {
-        answer: answers::OK,
-        len,
-    }
+    Ok(len)
 }

@@ -1,6 +1,8 @@
--- The answers' numbers, for contracts and definitions to cite: the same names as the constants of src/lib.rt, which are 01's table.
--- Assumes nothing.
+-- The answers' numbers, for contracts and definitions to cite: the same names as the constants of src/lib.rt, which are 01's table; and the number of
+-- each refusal. Assumes nothing.
 use Rattle.std.specs.Prelude.{ℕ}
+use Rattle.answers.specs.declared.Refusal.{Refusal}
+use Rattle.answers.specs.declared.Refusal.TheVariants.{Short, Range, Malformed, Kind, Full, Order, Flow, Final, Limit, State, Room, Retired}
 
 abbrev pub OK : ℕ
 OK = 0
@@ -40,3 +42,18 @@ ROOM = 11
 
 abbrev pub RETIRED : ℕ
 RETIRED = 12
+
+-- the table: each refusal with its number
+abbrev pub number : Refusal → ℕ
+number Short = SHORT
+number Range = RANGE
+number Malformed = MALFORMED
+number Kind = KIND
+number Full = FULL
+number Order = ORDER
+number Flow = FLOW
+number Final = FINAL
+number Limit = LIMIT
+number State = STATE
+number Room = ROOM
+number Retired = RETIRED

@@ -1,12 +1,12 @@
 -- Every event keeps a detector well formed: what `good` tests, as facts, holds of what each definition yields, the arguments being in their limits.
 -- At most four bursts are kept, each above the minimum. Assumes nothing.
 use mathlib.Core.Path.{◌≡◌, refl, ◌∙◌}
-use mathlib.Core.Bool.{Bool, true, false, cond}
+use mathlib.Core.Bool.{Bool, true, false, cond, ◌&&◌}
 use mathlib.Core.Logic.{◌⊎◌, inl, inr, ⊎_elim}
 use mathlib.Core.List.{List}
-use Prim.Native.Nat.{ℕ, ◌+◌, ◌^◌, ◌≤◌, ◌<◌, min, max}
+use Prim.Native.Nat.{ℕ, zero, suc, ◌+◌, ◌^◌, ◌≤◌, ◌<◌, min, max}
 use native.Mathlib.Omega.{arith}
-use lib.Dec.{eqb, ltb, leb, lit<}
+use lib.Dec.{eqb, ltb, leb}
 use lib.ListN.{length, get_or, set, length-set}
 use lib.Seq.{get_or-set_same, get_or-set_other}
 use borrow.Author.Tests.{ltb-true, lt-ltb, le-ltb, le-leb, lt-leb}
@@ -14,7 +14,7 @@ use Rattle.answers.proofs.Tests.{fst, both, split}
 use Rattle.black_hole.specs.declared.Bursts.{Bursts}
 use Rattle.black_hole.specs.declared.BlackHoleDetector.{BlackHoleDetector}
 use Rattle.black_hole.specs.declared.Detected.{Detected}
-use Rattle.black_hole.specs.BlackHole.{none, pushed, passed, retained, lower_of, least_of, kept, begun, suspicious, suspected, dropped, finished, fresh, probe_acked, delivered, follows, grown, lost, cleared, detected, good_place, good_bursts, good}
+use Rattle.black_hole.specs.BlackHole.{none, pushed, passed, retained, retained_first, least_of, least_first, kept, begun, suspicious, suspected, dropped, finished, fresh, probe_acked, delivered, follows, grown, lost, cleared, detected, good_place, good_first, good_bursts, good}
 
 -- ---- the bursts
 pub record Kept (b : Bursts) (least : ℕ) : Type 0 where
@@ -23,7 +23,6 @@ pub record Kept (b : Bursts) (least : ℕ) : Type 0 where
   pub above : (i : ℕ) → i < b.count → (least < get_or b.sizes i 0) × (get_or b.sizes i 0 ≤ 65527)
 
 pub none_kept : (least : ℕ) → Kept none least
-unfolding none
 none_kept least = record { few = omega arith; four = refl; above = λ i h. absurd (omega arith) }
 
 -- x put at place i, which is the next free one or one in use
@@ -56,30 +55,38 @@ push_kept b least x k l h =
     (split b.count 4)
 
 pass_kept : (b : Bursts) (least len : ℕ) (on : Bursts) (i : ℕ) → Kept b least → Kept on least → Kept (passed b len on i) least
-unfolding passed
-pass_kept b least len on i k o =
-    ⊎_elim
-    (λ c.
-    rw (lt-ltb i b.count c)
-    (⊎_elim
-    (λ l. rw (lt-ltb len (get_or b.sizes i 0) l) (push_kept on least (get_or b.sizes i 0) o (k.above i c).0 (k.above i c).1))
-    (λ l. rw (le-ltb len (get_or b.sizes i 0) l) o)
-    (split len (get_or b.sizes i 0))))
-    (λ c. rw (le-ltb i b.count c) o)
-    (split i b.count)
+pass_kept b least len on i k o = by (ltb i b.count && ltb len (get_or b.sizes i 0)) refl
+  where
+    by : (t : Bool) → (ltb i b.count && ltb len (get_or b.sizes i 0)) ≡ t → Kept (cond t (pushed on (get_or b.sizes i 0)) on) least
+    by false e = o
+    by true e =
+        let h : i < b.count = ltb-true _ _ (fst (ltb i b.count) (ltb len (get_or b.sizes i 0)) e) in
+        push_kept on least (get_or b.sizes i 0) o (k.above i h).0 (k.above i h).1
+
+retain_first_kept : (n : ℕ) (b : Bursts) (least len : ℕ) → Kept b least → Kept (retained_first n b len) least
+unfolding retained_first
+retain_first_kept zero b least len k = none_kept least
+retain_first_kept (suc n) b least len k = pass_kept b least len (retained_first n b len) n k (retain_first_kept n b least len k)
 
 pub retain_kept : (b : Bursts) (least len : ℕ) → Kept b least → Kept (retained b len) least
-unfolding retained
-retain_kept b least len k =
-    pass_kept b least len _ 3 k (pass_kept b least len _ 2 k (pass_kept b least len _ 1 k (pass_kept b least len _ 0 k (none_kept least))))
+retain_kept b least len k = retain_first_kept 4 b least len k
 
-lower_lt : (s : List ℕ) (i j : ℕ) → i < 4 → j < 4 → lower_of s i j < 4
-unfolding lower_of
-lower_lt s i j hi hj = ⊎_elim (λ l. rw (lt-ltb (get_or s j 0) (get_or s i 0) l) hj) (λ l. rw (le-ltb (get_or s j 0) (get_or s i 0) l) hi) (split (get_or s j 0) (get_or s i 0))
+one_of : (n a : ℕ) (b : Bool) → a < suc n → cond b (suc n) a < suc (suc n)
+one_of n a true h = omega arith
+one_of n a false h = omega arith
+
+same_zero : (b : Bool) → cond {A = ℕ} b 0 0 < 1
+same_zero true = omega arith
+same_zero false = omega arith
+
+-- the first place of the smallest of the first places is one of them
+least_first_lt : (n : ℕ) (s : List ℕ) → least_first (suc n) s < suc n
+unfolding least_first
+least_first_lt zero s = same_zero (ltb (get_or s 0 0) (get_or s 0 0))
+least_first_lt (suc n) s = one_of n (least_first (suc n) s) (ltb (get_or s (suc n) 0) (get_or s (least_first (suc n) s) 0)) (least_first_lt n s)
 
 least_lt : (s : List ℕ) → least_of s < 4
-unfolding least_of
-least_lt s = lower_lt s _ 3 (lower_lt s _ 2 (lower_lt s 0 1 (lit< tt) (lit< tt)) (lit< tt)) (lit< tt)
+least_lt s = least_first_lt 3 s
 
 pub keep_kept : (b : Bursts) (least x : ℕ) → Kept b least → least < x → x ≤ 65527 → Kept (kept b x) least
 unfolding kept
@@ -197,13 +204,16 @@ place_good b least i k =
     (λ h. rw (le-leb b.count i h))
     (split i b.count)
 
+first_good : (n : ℕ) (b : Bursts) (least : ℕ) → Kept b least → good_first n b least ≡ true
+unfolding good_first
+first_good zero b least k = le-leb _ _ k.few
+first_good (suc n) b least k = both (first_good n b least k) (place_good b least n k)
+
 pub sound_good : (d : BlackHoleDetector) → Sound d → good d ≡ true
 unfolding good good_bursts
 sound_good d k =
     both (both (le-leb _ _ k.low) (le-leb _ _ k.high))
-    (both (both (le-leb _ _ k.acked) (lt-ltb _ _ k.post))
-    (both (both (lt-ltb _ _ k.latest) (le-leb _ _ k.smallest))
-    (both (le-leb _ _ k.bursts.few)
-    (both (place_good d.bursts d.minimum 0 k.bursts)
-    (both (place_good d.bursts d.minimum 1 k.bursts)
-    (both (place_good d.bursts d.minimum 2 k.bursts) (place_good d.bursts d.minimum 3 k.bursts)))))))
+    (both (both (le-leb _ _ k.acked) (lt-ltb _ _ k.post)) (both (both (lt-ltb _ _ k.latest) (le-leb _ _ k.smallest)) (first 4)))
+  where
+    first : (n : ℕ) → good_first n d.bursts d.minimum ≡ true
+    first n = first_good n d.bursts d.minimum k.bursts

@@ -3,14 +3,14 @@
 -- on, or when it is asked for a black hole. It is suspicious unless its smallest packet is at most the minimum, or it ended before the newest
 -- delivery noted and its smallest packet is at most the acknowledged size. More than three suspicious bursts are a black hole.
 -- The acknowledged size is what the caller says of a packet, and may be below the minimum. Assumes nothing.
-use Rattle.std.specs.Prelude.{ℕ, ◌+◌, ◌-◌, ◌^◌, min, max, Bool, true, false, cond, ◌&&◌, ◌||◌, List, eqb, ltb, leb, get_or, set, replicate}
+use Rattle.std.specs.Prelude.{ℕ, zero, suc, ◌+◌, ◌-◌, ◌^◌, min, max, Bool, true, false, cond, ◌&&◌, ◌||◌, List, eqb, ltb, leb, get_or, set, replicate}
 use Rattle.black_hole.specs.declared.Bursts.{Bursts}
 use Rattle.black_hole.specs.declared.CurrentLossBurst.{CurrentLossBurst}
 use Rattle.black_hole.specs.declared.BlackHoleDetector.{BlackHoleDetector}
 use Rattle.black_hole.specs.declared.Detected.{Detected}
 
 -- ---- the bursts that are kept: four places, of which the first `count` are used
-unfoldable pub none : Bursts
+abbrev pub none : Bursts
 none = record { sizes = replicate 4 0; count = 0 }
 
 -- one more, in the next free place
@@ -18,19 +18,29 @@ unfoldable pub pushed : Bursts → ℕ → Bursts
 pushed b x = cond (ltb b.count 4) (record { sizes = set b.sizes b.count x; count = b.count + 1 }) b
 
 -- place i of b goes on to the bursts `on`, if it is used and above len
-unfoldable pub passed : Bursts → ℕ → Bursts → ℕ → Bursts
-passed b len on i = cond (ltb i b.count) (cond (ltb len (get_or b.sizes i 0)) (pushed on (get_or b.sizes i 0)) on) on
+abbrev pub passed : Bursts → ℕ → Bursts → ℕ → Bursts
+passed b len on i = cond (ltb i b.count && ltb len (get_or b.sizes i 0)) (pushed on (get_or b.sizes i 0)) on
+
+-- of the first k places only those above len
+unfoldable pub retained_first : ℕ → Bursts → ℕ → Bursts
+retained_first zero b len = none
+retained_first (suc k) b len = passed b len (retained_first k b len) k
 
 -- only those above len
-unfoldable pub retained : Bursts → ℕ → Bursts
-retained b len = passed b len (passed b len (passed b len (passed b len none 0) 1) 2) 3
+abbrev pub retained : Bursts → ℕ → Bursts
+retained b len = retained_first 4 b len
 
--- the place of the smaller of two, the first where they are the same; the first place of the smallest of all
-unfoldable pub lower_of : List ℕ → ℕ → ℕ → ℕ
+-- the place of the smaller of two, the first where they are the same
+abbrev pub lower_of : List ℕ → ℕ → ℕ → ℕ
 lower_of s i j = cond (ltb (get_or s j 0) (get_or s i 0)) j i
 
-unfoldable pub least_of : List ℕ → ℕ
-least_of s = lower_of s (lower_of s (lower_of s 0 1) 2) 3
+-- the first place of the smallest size of the first k, and of all
+unfoldable pub least_first : ℕ → List ℕ → ℕ
+least_first zero s = 0
+least_first (suc k) s = lower_of s (least_first k s) k
+
+abbrev pub least_of : List ℕ → ℕ
+least_of s = least_first 4 s
 
 -- the most suspicious are kept: with four kept already, a larger one takes the place of the first of the smallest
 unfoldable pub kept : Bursts → ℕ → Bursts
@@ -131,8 +141,13 @@ detected d =
 unfoldable pub good_place : Bursts → ℕ → ℕ → Bool
 good_place b least i = leb b.count i || (ltb least (get_or b.sizes i 0) && leb (get_or b.sizes i 0) 65527)
 
+-- as many as there is room for, and the first k places are good
+unfoldable pub good_first : ℕ → Bursts → ℕ → Bool
+good_first zero b least = leb b.count 4
+good_first (suc k) b least = good_first k b least && good_place b least k
+
 unfoldable pub good_bursts : Bursts → ℕ → Bool
-good_bursts b least = leb b.count 4 && (good_place b least 0 && (good_place b least 1 && (good_place b least 2 && good_place b least 3)))
+good_bursts b least = good_first 4 b least
 
 unfoldable pub good : BlackHoleDetector → Bool
 good d =

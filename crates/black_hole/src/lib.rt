@@ -22,6 +22,7 @@ const PLACES: usize = 4;
 const BLACK_HOLE_THRESHOLD: usize = 3;
 
 // The suspicious bursts: the smallest packet of each, in the first `count` places, oldest first.
+// An array with its count: fixed memory, there is no heap.
 #[derive(Clone, Copy)]
 pub struct Bursts {
     pub sizes: [u16; 4],
@@ -29,6 +30,7 @@ pub struct Bursts {
 }
 
 // The burst that is being gathered, if `has`: the latest number lost and the smallest packet.
+// A flag beside them, and no Option: BlackHoleDetector::good answers for the two where there is none.
 #[derive(Clone, Copy)]
 pub struct CurrentLossBurst {
     pub has: bool,
@@ -49,74 +51,41 @@ pub struct BlackHoleDetector {
     pub minimum: u16,
 }
 
+// Whether there is a black hole, and the detector after the question.
 #[derive(Clone, Copy)]
 pub struct Detected {
     pub found: bool,
     pub detector: BlackHoleDetector,
 }
 
-fn least(a: u16, b: u16) -> u16
-    ensures { result ≡ Prim.Native.Nat.min a b }
-{
-    if a < b { a } else { b }
-}
+// No burst is being gathered.
+const NO_BURST: CurrentLossBurst = CurrentLossBurst {
+    has: false,
+    latest: 0,
+    smallest: 0,
+};
 
-fn later(a: u64, b: u64) -> u64
-    ensures { result ≡ Prim.Native.Nat.max a b }
-{
-    if a < b { b } else { a }
-}
-
-// The difference, or 0.
-fn less(a: u64, b: u64) -> u64
-    ensures { result ≡ a - b }
-{
-    if a < b { 0 } else { a - b }
-}
-
-fn pick(first: bool, a: u16, b: u16) -> u16
-    ensures { result ≡ cond first a b }
-{
-    if first { a } else { b }
-}
-
-fn no_burst() -> CurrentLossBurst
-    ensures { result ≡ closed }
-{
-    CurrentLossBurst {
-        has: false,
-        latest: 0,
-        smallest: 0,
-    }
-}
-
-// The place of the smaller size, the first where they are the same.
-fn lower(sizes: [u16; 4], i: usize, j: usize) -> usize
-    requires { (i < 4) × (j < 4) }
-    ensures { (result ≡ lower_of sizes i j) × (result < 4) }
-{
-    if sizes[j] < sizes[i] { j } else { i }
-}
+// No burst is kept.
+const NO_BURSTS: Bursts = Bursts {
+    sizes: [0; 4],
+    count: 0,
+};
 
 // The first place of the smallest size.
 fn least_at(sizes: [u16; 4]) -> usize
     ensures { (result ≡ least_of sizes) × (result < 4) }
 {
-    let a = lower(sizes, 0, 1);
-    let b = lower(sizes, a, 2);
-    lower(sizes, b, 3)
+    let mut at = 0;
+    for (i, size) in sizes.iter().enumerate() {
+        if *size < sizes[at] {
+            at = i;
+        }
+    }
+    at
 }
 
 impl Bursts {
-    fn none() -> Bursts
-        ensures { result ≡ none }
-    {
-        Bursts {
-            sizes: [0u16; 4],
-            count: 0,
-        }
-    }
-
+    #[tactic(auto, unfolding(crate::specs::BlackHole::pushed))]
     fn push(self, size: u16) -> Bursts
         ensures { result ≡ pushed self size }
     {
@@ -132,32 +101,22 @@ impl Bursts {
         self
     }
 
-    // Passes on what stands at place i, if it is larger than `len`.
-    fn pass(self, len: u16, on: Bursts, i: usize) -> Bursts
-        requires { i < 4 }
-        ensures { result ≡ passed self len on i }
-    {
-        let sizes = self.sizes;
-        let size = sizes[i];
-        if i < self.count {
-            if len < size {
-                return on.push(size);
-            }
-        }
-        on
-    }
-
     // Bursts whose smallest packet is at most `len` are no longer suspicious.
     fn retain(self, len: u16) -> Bursts
         ensures { result ≡ retained self len }
     {
-        let a = self.pass(len, Bursts::none(), 0);
-        let b = self.pass(len, a, 1);
-        let c = self.pass(len, b, 2);
-        self.pass(len, c, 3)
+        let sizes = self.sizes;
+        let mut left = NO_BURSTS;
+        for (i, size) in sizes.iter().enumerate() {
+            if (i < self.count) & (len < *size) {
+                left = left.push(*size);
+            }
+        }
+        left
     }
 
     // One burst more; with four kept, it takes the place of the first of the smallest, if that is smaller.
+    #[tactic(auto, unfolding(crate::specs::BlackHole::kept))]
     fn keep(self, size: u16) -> Bursts
         ensures { result ≡ kept self size }
     {
@@ -168,15 +127,13 @@ impl Bursts {
         let at = least_at(sizes);
         if sizes[at] < size {
             sizes[at] = size;
-            return Bursts {
-                sizes,
-                count: self.count,
-            };
+            return Bursts { sizes, ..self };
         }
         self
     }
 
     // Is place i free, or a size above the minimum?
+    #[tactic(auto, unfolding(crate::specs::BlackHole::good_place))]
     fn good_place(self, minimum: u16, i: usize) -> bool
         requires { i < 4 }
         ensures { result ≡ good_place self minimum i }
@@ -189,21 +146,23 @@ impl Bursts {
     fn good(self, minimum: u16) -> bool
         ensures { result ≡ good_bursts self minimum }
     {
-        (self.count <= PLACES)
-            & (self.good_place(minimum, 0)
-                & (self.good_place(minimum, 1)
-                    & (self.good_place(minimum, 2) & self.good_place(minimum, 3))))
+        let mut fine = self.count <= PLACES;
+        for i in 0..PLACES {
+            fine = fine & self.good_place(minimum, i);
+        }
+        fine
     }
 }
 
 impl BlackHoleDetector {
     // A fresh detector, over a network that carries `minimum`.
+    #[tactic(auto, unfolding(crate::specs::BlackHole::fresh))]
     pub fn new(minimum: u16) -> BlackHoleDetector
         ensures { result ≡ fresh minimum }
     {
         BlackHoleDetector {
-            bursts: Bursts::none(),
-            current: no_burst(),
+            bursts: NO_BURSTS,
+            current: NO_BURST,
             post: 0,
             acked: minimum,
             minimum,
@@ -211,6 +170,7 @@ impl BlackHoleDetector {
     }
 
     // Whether the detector is well formed: `true` exactly if every number is in its limit.
+    #[tactic(auto, unfolding(crate::specs::BlackHole::good))]
     pub fn good(self) -> bool
         ensures { result ≡ good self }
     {
@@ -223,47 +183,43 @@ impl BlackHoleDetector {
     }
 
     // A probe was delivered: it is larger than all before, so no burst is suspicious any more.
+    #[tactic(auto, unfolding(crate::specs::BlackHole::probe_acked))]
     pub fn on_probe_acked(self, pn: u64, len: u16) -> BlackHoleDetector
         ensures { result ≡ probe_acked self pn len }
     {
-        let current = self.current;
         BlackHoleDetector {
-            bursts: Bursts::none(),
-            current,
+            bursts: NO_BURSTS,
             post: pn, // what was lost before it is past
             acked: len,
-            minimum: self.minimum,
+            ..self
         }
     }
 
     // Another packet was delivered: bursts with a packet no larger than it are no longer suspicious, if it is larger than those noted before.
+    #[tactic(auto, unfolding(crate::specs::BlackHole::delivered))]
     pub fn on_non_probe_acked(self, pn: u64, len: u16) -> BlackHoleDetector
         ensures { result ≡ delivered self pn len }
     {
         if len < self.acked {
             return self;
         }
-        let current = self.current;
-        let bursts = self.bursts;
         if len == self.acked {
             return BlackHoleDetector {
-                bursts,
-                current,
-                post: later(self.post, pn),
-                acked: self.acked,
-                minimum: self.minimum,
+                post: self.post.max(pn),
+                ..self
             };
         }
+        let bursts = self.bursts;
         BlackHoleDetector {
             bursts: bursts.retain(len),
-            current,
             post: pn,
             acked: len,
-            minimum: self.minimum,
+            ..self
         }
     }
 
     // Is the burst being gathered one that a smaller MTU would explain?
+    #[tactic(auto, unfolding(crate::specs::BlackHole::suspicious))]
     fn suspicious(self) -> bool
         ensures { result ≡ suspicious self }
     {
@@ -272,21 +228,29 @@ impl BlackHoleDetector {
             & ((self.post <= burst.latest) | (self.acked < burst.smallest))
     }
 
+    // The burst being gathered is kept; if it is newer than the newest delivery noted, that delivery counts no more.
+    #[tactic(auto, unfolding(crate::specs::BlackHole::suspected))]
     fn suspect(self) -> BlackHoleDetector
         ensures { result ≡ suspected self }
     {
         let burst = self.current;
         let bursts = self.bursts;
-        BlackHoleDetector {
+        let kept = BlackHoleDetector {
             bursts: bursts.keep(burst.smallest),
-            current: no_burst(),
-            post: self.post,
-            acked: pick(self.post < burst.latest, self.minimum, self.acked),
-            minimum: self.minimum,
+            current: NO_BURST,
+            ..self
+        };
+        if self.post < burst.latest {
+            return BlackHoleDetector {
+                acked: self.minimum,
+                ..kept
+            };
         }
+        kept
     }
 
     // The burst being gathered ends: it is kept if it is suspicious.
+    #[tactic(auto, unfolding(crate::specs::BlackHole::finished))]
     fn finish_loss_burst(self) -> BlackHoleDetector
         ensures { result ≡ finished self }
     {
@@ -295,13 +259,9 @@ impl BlackHoleDetector {
             if self.suspicious() {
                 return self.suspect();
             }
-            let bursts = self.bursts;
             return BlackHoleDetector {
-                bursts,
-                current: no_burst(),
-                post: self.post,
-                acked: self.acked,
-                minimum: self.minimum,
+                current: NO_BURST,
+                ..self
             };
         }
         self
@@ -311,41 +271,40 @@ impl BlackHoleDetector {
     fn gather(self, pn: u64, len: u16) -> BlackHoleDetector
         ensures { result ≡ begun self pn len }
     {
-        let bursts = self.bursts;
         BlackHoleDetector {
-            bursts,
             current: CurrentLossBurst {
                 has: true,
                 latest: pn,
                 smallest: len,
             },
-            post: self.post,
-            acked: self.acked,
-            minimum: self.minimum,
+            ..self
         }
     }
 
     // Is pn the number after the burst's latest?
+    #[tactic(auto, unfolding(crate::specs::BlackHole::follows))]
     fn follows(self, pn: u64) -> bool
         ensures { result ≡ follows self pn }
     {
         let burst = self.current;
-        burst.has & (less(pn, burst.latest) == 1)
+        burst.has & (pn.saturating_sub(burst.latest) == 1)
     }
 
     // A packet that is no probe was lost: the next number joins the burst, any other ends it and begins one.
+    #[tactic(auto, unfolding(crate::specs::BlackHole::lost))]
     pub fn on_non_probe_lost(self, pn: u64, len: u16) -> BlackHoleDetector
         ensures { result ≡ lost self pn len }
     {
         if self.follows(pn) {
             let burst = self.current;
-            return self.gather(pn, least(burst.smallest, len));
+            return self.gather(pn, burst.smallest.min(len));
         }
         let ended = self.finish_loss_burst();
         ended.gather(pn, len)
     }
 
     // The burst ends; more than three suspicious bursts are a black hole, and are then forgotten.
+    #[tactic(auto, unfolding(crate::specs::BlackHole::detected))]
     pub fn black_hole_detected(self) -> Detected
         ensures { result ≡ detected self }
     {
@@ -357,17 +316,12 @@ impl BlackHoleDetector {
                 detector: ended,
             };
         }
-        let current = ended.current;
-        let detector = BlackHoleDetector {
-            bursts: Bursts::none(),
-            current,
-            post: ended.post,
-            acked: ended.acked,
-            minimum: ended.minimum,
-        };
         Detected {
             found: true,
-            detector,
+            detector: BlackHoleDetector {
+                bursts: NO_BURSTS,
+                ..ended
+            },
         }
     }
 }

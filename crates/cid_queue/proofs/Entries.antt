@@ -1,17 +1,19 @@
 -- The entries are the ids held, ascending, each once: each number is the first held after the one before it, so none is passed over.
 -- Assumes nothing.
-use mathlib.Core.Path.{◌≡◌}
+use mathlib.Core.Path.{◌≡◌, refl, ap}
 use mathlib.Core.Bool.{true}
 use mathlib.Core.Logic.{⊎_elim}
 use Prim.Native.Nat.{ℕ, zero, suc, ◌+◌, ◌-◌, ◌≤◌, ◌<◌}
 use native.Mathlib.Omega.{arith}
 use Rattle.answers.proofs.Tests.{split}
+use Rattle.std.specs.Prelude.{Option, Some, None, Ok, is_some, is_ok}
+use Rattle.cid_ring.specs.declared.Cid.{Cid}
 use Rattle.cid_ring.specs.declared.Ring.{Ring}
-use Rattle.cid_ring.specs.Cids.{held}
+use Rattle.cid_ring.specs.Cids.{under, held, sound}
 use Rattle.cid_ring.proofs.Places.{clash, same}
 use Rattle.cid_ring.proofs.Found.{first_from, first_yes, first_no}
-use Rattle.cid_ring.proofs.Kept.{Sound, held_from, held_below}
-use Rattle.cid_queue.specs.Queue.{nth}
+use Rattle.cid_ring.proofs.Kept.{Sound, sound_says, held_from, held_below}
+use Rattle.cid_queue.specs.Queue.{shown_as, shown, active_of, nth}
 
 module _ (q : Ring) where
   -- ascending
@@ -62,3 +64,24 @@ module _ (q : Ring) where
     pub all_told : Told n
     unfolding nth
     all_told = sought (n - q.offset) zero (held_from q n e) (omega (arith, held_from q n e))
+
+-- a number that is held has an id to show
+pub record Shown (q : Ring) (n : ℕ) : Type 0 where
+  pub id : Cid
+  pub there : under q n ≡ Some id
+  pub is : shown q n ≡ Ok (record { seq = n; cid = id })
+
+pub held_shown : (q : Ring) (n : ℕ) → held q n ≡ true → Shown q n
+unfolding held
+held_shown q n e = by_id (under q n) refl e
+  where
+    by_id : (x : Option Cid) → under q n ≡ x → is_some x ≡ true → Shown q n
+    by_id None d f = clash (is_some (under q n)) e (ap (λ (x : Option Cid). is_some x) d)
+    by_id (Some s) d f = record { id = s; there = d; is = ap (shown_as n) d }
+
+-- so a queue in good form always shows its active id
+pub active_there : (q : Ring) → sound q ≡ true → is_ok (active_of q) ≡ true
+unfolding active_of
+active_there q e =
+    let s = held_shown q q.offset (sound_says q e).active in
+    rw (e, s.is)

@@ -2,14 +2,17 @@
 -- range or hands back another token. Whatever meets the contracts does as in the example of 4 and 5.
 -- Assumes nothing.
 use mathlib.Core.Path.{◌≡◌}
+use mathlib.Core.Bool.{true}
 use mathlib.Core.List.{List, ◌∷◌}
 use Prim.Native.Nat.{ℕ}
 use lib.ListN.{replicate}
-use Rattle.answers.specs.Answers.{OK}
-use Rattle.cid_queue.specs.declared.Made.{Made}
+use Rattle.std.specs.Prelude.{Result, is_ok}
+use Rattle.answers.specs.declared.Refusal.{Refusal}
+use Rattle.cid_queue.specs.declared.CidQueue.{CidQueue}
 use Rattle.cid_queue.specs.declared.Retirement.{Retirement}
+use Rattle.cid_queue.specs.History.{left}
 use Rattle.cid_queue.proofs.History.{New, Frame}
-use Rattle.cid_queue.proofs.Examples.{edges, gap}
+use Rattle.cid_queue.proofs.Examples.{gone, part, begun, begins, edges, gap}
 
 abbrev bytes : ℕ → List ℕ
 bytes n = n ∷ replicate 19 0
@@ -17,9 +20,12 @@ bytes n = n ∷ replicate 19 0
 abbrev token : ℕ → List ℕ
 token n = replicate 16 n
 
-pub first_taken : (m : Made) (r : Retirement) → New (bytes 170) 1 m → Frame m.queue 4 0 (bytes 4) 1 (token 4) r → r.answer ≡ OK
+pub new_is_taken : (m : Result CidQueue Refusal) → New (bytes 170) 1 m → is_ok m ≡ true
+new_is_taken m a = rw a begins
+
+pub first_taken : (m : Result CidQueue Refusal) (r : Result Retirement Refusal) → New (bytes 170) 1 m → Frame (begun m) 4 0 (bytes 4) 1 (token 4) r → is_ok r ≡ true
 first_taken m r a b = rw (b, a) edges.0
 
-pub then_retired : (m : Made) (r s : Retirement) → New (bytes 170) 1 m → Frame m.queue 4 0 (bytes 4) 1 (token 4) r → Frame r.queue 5 1 (bytes 5) 1 (token 5) s
-    → (s.start ≡ 0) × (s.end ≡ 4) × (s.token ≡ token 4) × (s.queue.ring.offset ≡ 4)
+pub then_retired : (m : Result CidQueue Refusal) (r s : Result Retirement Refusal) → New (bytes 170) 1 m → Frame (begun m) 4 0 (bytes 4) 1 (token 4) r
+    → Frame (left (begun m) r) 5 1 (bytes 5) 1 (token 5) s → (gone s ≡ part 0 4 4) × ((left (left (begun m) r) s).ring.offset ≡ 4)
 then_retired m r s a b c = rw (c, b, a) gap

@@ -9,9 +9,10 @@ use native.Mathlib.Nat.{max-eq_right}
 use lib.Dec.{eqb, ltb, leb}
 use borrow.Author.Tests.{lt-ltb, le-ltb, ne_eqb, ltb-true}
 use Rattle.answers.proofs.Tests.{split}
-use Rattle.cid_ring.specs.declared.Slot.{Slot}
+use Rattle.std.specs.Prelude.{Option, Some, None, is_some}
+use Rattle.cid_ring.specs.declared.Cid.{Cid}
 use Rattle.cid_ring.specs.declared.Ring.{Ring}
-use Rattle.cid_ring.specs.Cids.{vacant, under, held, ring_of, retired, put, fit, fits, sound}
+use Rattle.cid_ring.specs.Cids.{under, held, token_of, ring_of, retired, put, fit, fits, sound}
 use Rattle.cid_ring.proofs.Places.{clash, same, under_below, under_past, ring_in, ring_below, ring_past}
 
 -- both parts of a test that holds
@@ -23,7 +24,7 @@ both false b e = clash false e refl
 pub three : {P : Type 0} (q : Ring) (n : ℕ) → (n < q.offset → P) → (q.offset ≤ n → n < q.offset + 5 → P) → (q.offset + 5 ≤ n → P) → P
 three q n f g h = ⊎_elim f (λ l. ⊎_elim (g l) h (split n (q.offset + 5))) (split n q.offset)
 
-pub put_offset : (q : Ring) (m : ℕ) (s : Slot) → (put q m s).offset ≡ q.offset
+pub put_offset : (q : Ring) (m : ℕ) (s : Option Cid) → (put q m s).offset ≡ q.offset
 unfolding put ring_of
 put_offset q m s = refl
 
@@ -32,7 +33,7 @@ unfolding retired ring_of
 retired_offset q to l = max-eq_right l
 
 -- a number that has a place is written, and no other
-pub under_put : (q : Ring) (m : ℕ) (s : Slot) (n : ℕ) → q.offset ≤ m → m < q.offset + 5 → under (put q m s) n ≡ cond (eqb n m) s (under q n)
+pub under_put : (q : Ring) (m : ℕ) (s : Option Cid) (n : ℕ) → q.offset ≤ m → m < q.offset + 5 → under (put q m s) n ≡ cond (eqb n m) s (under q n)
 unfolding put
 under_put q m s n l u =
     three q n
@@ -40,11 +41,11 @@ under_put q m s n l u =
     (λ k v. ring_in f q.offset n k v)
     (λ k. let d : n ≡ m → ⊥ = λ e. omega arith in rw (ne_eqb n m d) (ring_past f q.offset n k ∙ under_past q n k))
   where
-    f : ℕ → Slot
+    f : ℕ → Option Cid
     f x = cond (eqb x m) s (under q x)
 
 -- the numbers below are gone, and all others are as they were
-pub under_retired : (q : Ring) (to n : ℕ) → q.offset ≤ to → under (retired q to) n ≡ cond (ltb n to) vacant (under q n)
+pub under_retired : (q : Ring) (to n : ℕ) → q.offset ≤ to → under (retired q to) n ≡ cond (ltb n to) None (under q n)
 unfolding retired
 under_retired q to n l =
     rw (max-eq_right l)
@@ -58,14 +59,14 @@ under_retired q to n l =
     (split n (to + 5))))
     (split n to))
   where
-    f : ℕ → Slot
-    f x = cond (ltb x to) vacant (under q x)
+    f : ℕ → Option Cid
+    f x = cond (ltb x to) None (under q x)
 
 -- a number with no id is not held
-not_held : (q : Ring) (n : ℕ) → held q n ≡ true → vacant ≡ under q n → ⊥
+not_held : (q : Ring) (n : ℕ) → held q n ≡ true → None ≡ under q n → ⊥
 unfolding held
 not_held q n e d =
-    clash (ltb 0 (under q n).len) e (ap (λ (s : Slot). ltb 0 s.len) (sym d))
+    clash (is_some (under q n)) e (ap (λ (s : Option Cid). is_some s) (sym d))
 
 -- at most five numbers are held, and none is below the active one
 pub held_from : (q : Ring) (n : ℕ) → held q n ≡ true → q.offset ≤ n
@@ -80,7 +81,7 @@ pub record Sound (q : Ring) : Type 0 where
   pub active : held q q.offset ≡ true
   pub each : (n : ℕ) → fit (under q n) n ≡ true
 
-pub vacant_fit : (n : ℕ) → fit vacant n ≡ true
+pub vacant_fit : (n : ℕ) → fit None n ≡ true
 unfolding fit
 vacant_fit n = refl
 
@@ -116,19 +117,21 @@ unfolding sound
 sound_if q h = rw (lt-ltb q.offset (2 ^ 62) h.small, h.active, fits_if q q.offset 5 h.each)
 
 -- a number that is held is below 2^62, and has a token unless it is 0
-held_fit : (q : Ring) → Sound q → (n : ℕ) → held q n ≡ true → (ltb n (2 ^ 62) && ((under q n).known || eqb n 0)) ≡ true
+held_fit : (q : Ring) → Sound q → (n : ℕ) → held q n ≡ true → (ltb n (2 ^ 62) && (is_some (token_of (under q n)) || eqb n 0)) ≡ true
 unfolding held fit
-held_fit q h n e =
-    let z : (under q n).len ≡ 0 → ⊥ = λ x. omega (arith, ltb-true 0 (under q n).len e) in
-    rw (ne_eqb (under q n).len 0 z) at (both (leb (under q n).len 20) _ (h.each n)).1
+held_fit q h n e = of_id (under q n) e (h.each n)
+  where
+    of_id : (x : Option Cid) → is_some x ≡ true → fit x n ≡ true → (ltb n (2 ^ 62) && (is_some (token_of x) || eqb n 0)) ≡ true
+    of_id None d f = clash false d refl
+    of_id (Some s) d f = (both (ltb 0 s.len && leb s.len 20) _ f).1
 
 pub held_small : (q : Ring) → Sound q → (n : ℕ) → held q n ≡ true → n < 2 ^ 62
 held_small q h n e = ltb-true n (2 ^ 62) (both (ltb n (2 ^ 62)) _ (held_fit q h n e)).0
 
-pub held_known : (q : Ring) → Sound q → (n : ℕ) → held q n ≡ true → 0 < n → (under q n).known ≡ true
+pub held_known : (q : Ring) → Sound q → (n : ℕ) → held q n ≡ true → 0 < n → is_some (token_of (under q n)) ≡ true
 held_known q h n e l =
     let z : n ≡ 0 → ⊥ = λ x. omega arith in
-    either (under q n).known (rw (ne_eqb n 0 z) at (both (ltb n (2 ^ 62)) _ (held_fit q h n e)).1)
+    either (is_some (token_of (under q n))) (rw (ne_eqb n 0 z) at (both (ltb n (2 ^ 62)) _ (held_fit q h n e)).1)
   where
     either : (b : Bool) → (b || false) ≡ true → b ≡ true
     either true x = refl

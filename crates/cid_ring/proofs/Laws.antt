@@ -5,27 +5,27 @@ use mathlib.Core.Bool.{Bool, true, false, not}
 use Prim.Native.Nat.{ℕ, suc, ◌+◌, ◌-◌, ◌%◌, ◌^◌, ◌≤◌, ◌<◌}
 use native.Mathlib.Omega.{arith}
 use native.Mathlib.Numerals.{add-one}
-use lib.Dec.{ltb}
 use lib.ListN.{get_or}
 use borrow.Author.Tests.{lt-ltb, le-ltb, not-true, not-false}
-use Rattle.cid_ring.specs.declared.Slot.{Slot}
+use Rattle.std.specs.Prelude.{Option, None, is_some}
+use Rattle.cid_ring.specs.declared.Cid.{Cid}
 use Rattle.cid_ring.specs.declared.Ring.{Ring}
-use Rattle.cid_ring.specs.Cids.{vacant, blank, under, held, first, fit, fits, sound}
+use Rattle.cid_ring.specs.Cids.{under, held, first, fit, fits, sound}
 use Rattle.cid_ring.proofs.Places.{under_in, under_below, under_past}
 
 module _ (q : Ring) (n : ℕ) where
-  pub slot_below : {r : Slot} → n < q.offset → r ≡ vacant → r ≡ under q n
+  pub slot_below : {r : Option Cid} → n < q.offset → r ≡ None → r ≡ under q n
   slot_below l e = e ∙ under_below q n l
 
-  pub slot_past : {r : Slot} → q.offset ≤ n → 5 ≤ n - q.offset → r ≡ vacant → r ≡ under q n
+  pub slot_past : {r : Option Cid} → q.offset ≤ n → 5 ≤ n - q.offset → r ≡ None → r ≡ under q n
   slot_past l u e = e ∙ under_past q n (omega arith)
 
-  pub slot_in : q.offset ≤ n → n - q.offset < 5 → get_or q.slots (n % 5) blank ≡ under q n
+  pub slot_in : q.offset ≤ n → n - q.offset < 5 → get_or q.slots (n % 5) None ≡ under q n
   slot_in l u = under_in q n l (omega arith)
 
-  pub held_is : {s : Slot} → s ≡ under q n → ltb 0 s.len ≡ held q n
+  pub held_is : {s : Option Cid} → s ≡ under q n → is_some s ≡ held q n
   unfolding held
-  held_is e = ap (λ (x : Slot). ltb 0 x.len) e
+  held_is e = ap (λ (x : Option Cid). is_some x) e
 
 pub ruleset slots = (slot_below, slot_past, slot_in, held_is)
 
@@ -53,30 +53,29 @@ module _ (h : ℕ → Bool) (from past n : ℕ) (inv : first h from (past - from
 pub ruleset firsts = (first_hit, first_miss, first_end)
 
 -- a turn of the check: what is left of it says what the whole says
-module _ (q : Ring) (i : ℕ) (inv : fits q q.offset 5 ≡ fits q (q.offset + i) (5 - i)) where
-  pub fits_miss : {b : Bool} {s : Slot} → i < 5 → s ≡ under q (q.offset + i) → b ≡ fit s (q.offset + i) → not b ≡ true → false ≡ fits q q.offset 5
+module _ (q : Ring) (n : ℕ) (inv : fits q q.offset 5 ≡ fits q n (q.offset + 5 - n)) where
+  pub fits_miss : {b : Bool} {s : Option Cid} → n < q.offset + 5 → s ≡ under q n → b ≡ fit s n → not b ≡ true → false ≡ fits q q.offset 5
   unfolding fits
   fits_miss l es e t =
-      let z : 5 - i ≡ suc (4 - i) = omega arith in
-      let y : fit (under q (q.offset + i)) (q.offset + i) ≡ false = ap (λ (x : Slot). fit x (q.offset + i)) (sym es) ∙ sym e ∙ not-true _ t in
+      let z : q.offset + 5 - n ≡ suc (q.offset + 4 - n) = omega arith in
+      let y : fit (under q n) n ≡ false = ap (λ (x : Option Cid). fit x n) (sym es) ∙ sym e ∙ not-true _ t in
       sym (inv ∙ rw (z, y))
 
-  pub fits_more : {b : Bool} {s : Slot} → i < 5 → s ≡ under q (q.offset + i) → b ≡ fit s (q.offset + i) → not b ≡ false
-      → fits q q.offset 5 ≡ fits q (q.offset + (i + 1)) (5 - (i + 1))
+  pub fits_more : {b : Bool} {s : Option Cid} → n < q.offset + 5 → s ≡ under q n → b ≡ fit s n → not b ≡ false
+      → fits q q.offset 5 ≡ fits q (n + 1) (q.offset + 5 - (n + 1))
   unfolding fits
   fits_more l es e t =
-      let z : 5 - i ≡ suc (4 - i) = omega arith in
-      let y : 5 - (i + 1) ≡ 4 - i = omega arith in
-      let x : q.offset + (i + 1) ≡ suc (q.offset + i) = omega arith in
-      let w : fit (under q (q.offset + i)) (q.offset + i) ≡ true = ap (λ (x : Slot). fit x (q.offset + i)) (sym es) ∙ sym e ∙ not-false _ t in
-      inv ∙ rw (z, w, y, x)
+      let z : q.offset + 5 - n ≡ suc (q.offset + 4 - n) = omega arith in
+      let y : q.offset + 5 - (n + 1) ≡ q.offset + 4 - n = omega arith in
+      let w : fit (under q n) n ≡ true = ap (λ (x : Option Cid). fit x n) (sym es) ∙ sym e ∙ not-false _ t in
+      inv ∙ rw (z, w, y, add-one)
 
-  pub fits_end : 5 ≤ i → true ≡ fits q q.offset 5
+  pub fits_end : q.offset + 5 ≤ n → true ≡ fits q q.offset 5
   unfolding fits
-  fits_end l = let z : 5 - i ≡ 0 = omega arith in sym (inv ∙ rw z)
+  fits_end l = let z : q.offset + 5 - n ≡ 0 = omega arith in sym (inv ∙ rw z)
 
-pub fits_none : (q : Ring) → fits q q.offset 5 ≡ fits q (q.offset + 0) (5 - 0)
-fits_none q = let z : q.offset + 0 ≡ q.offset = omega arith in rw z
+pub fits_none : (q : Ring) → fits q q.offset 5 ≡ fits q q.offset (q.offset + 5 - q.offset)
+fits_none q = let z : q.offset + 5 - q.offset ≡ 5 = omega arith in rw z
 
 pub ruleset checks = (fits_none, fits_miss, fits_more, fits_end)
 

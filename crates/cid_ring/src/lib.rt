@@ -3,46 +3,44 @@
 // outside this crate, and a ring is read and written by number.
 #![tactic(auto)]
 
-ghost use Rattle.std.specs.Prelude.{◌≡◌, ◌<◌, ◌+◌, ◌-◌, ◌^◌, min};
-ghost use Rattle.cid_ring.specs.Cids.{vacant, under, held, first, retired, put, fit, fits, sound, empty};
+ghost use Rattle.std.specs.Prelude.{◌≡◌, ◌<◌, ◌-◌, ◌%◌, ◌^◌};
+ghost use Rattle.cid_ring.specs.Cids.{under, held, first, retired, put, fit, fits, sound, empty};
 
-// An id with its reset token, or nothing.
+// An id with its reset token.
 #[derive(Clone, Copy)]
-pub struct Slot {
-    // How many bytes of `id` count; 0: there is no id. The other bytes are as they were given.
+pub struct Cid {
+    // How many bytes of `id` count, 1 to 20, beside the array: no heap. The other bytes are as they were given.
     pub len: usize,
     pub id: [u8; 20],
-    // Whether the id came with a reset token; the handshake's id has none.
-    pub known: bool,
-    pub token: [u8; 16],
+    // The reset token that the id came with; the handshake's id has none.
+    pub token: Option<[u8; 16]>,
 }
 
 // The ids received and not yet retired; there may be gaps between their numbers.
 #[derive(Clone, Copy)]
 pub struct Ring {
-    // The slot of the number n stands at n % 5.
-    pub slots: [Slot; 5],
+    // The id of the number n stands at n % 5.
+    pub slots: [Option<Cid>; 5],
     // The sequence number of the active id, the least among those held.
     pub offset: u64,
 }
 
-// No id.
-fn vacant() -> Slot
-    ensures { result ≡ vacant }
+// Where the number `n` has its place.
+fn place(n: u64) -> usize
+    ensures { result ≡ n % 5 }
 {
-    Slot {
-        len: 0,
-        id: [0u8; 20],
-        known: false,
-        token: [0u8; 16],
-    }
+    (n % PLACES) as usize
 }
 
 // Whether `s` may stand under the number `n`.
-fn fit(s: Slot, n: u64) -> bool
+#[tactic(auto, unfolding(crate::specs::Cids::fit))]
+fn fit(s: Option<Cid>, n: u64) -> bool
     ensures { result ≡ fit s n }
 {
-    (s.len <= 20) & ((s.len == 0) | ((n < NUMBERS) & (s.known | (n == 0))))
+    match s {
+        None => true,
+        Some(id) => id.len > 0 && id.len <= 20 && n < NUMBERS && (id.token.is_some() || n == 0),
+    }
 }
 
 impl Ring {
@@ -50,67 +48,55 @@ impl Ring {
     pub fn empty() -> Ring
         ensures { result ≡ empty }
     {
-        let none = vacant();
         Ring {
-            slots: [none; 5],
+            slots: [None; 5],
             offset: 0,
         }
     }
 
     // What stands under the number `n`.
-    pub fn slot(self, n: u64) -> Slot
+    #[tactic(auto, using(crate::proofs::Laws::slots))]
+    pub fn slot(self, n: u64) -> Option<Cid>
         ensures { result ≡ under self n }
     {
-        if n < self.offset {
-            return vacant();
+        if n < self.offset || n - self.offset >= PLACES {
+            return None;
         }
-        if n - self.offset >= PLACES {
-            return vacant();
-        }
-        let slots = self.slots;
-        let place = (n % PLACES) as usize;
-        slots[place]
+        self.slots[place(n)]
     }
 
     // Whether there is an id under the number `n`.
+    #[tactic(auto, using(crate::proofs::Laws::slots))]
     fn held(self, n: u64) -> bool
         ensures { result ≡ held self n }
     {
-        let s = self.slot(n);
-        s.len > 0
+        self.slot(n).is_some()
     }
 
     // The least number held from `from` on; `past` where none is below that, `from` where `past` is not above it.
+    #[tactic(auto, using(crate::proofs::Laws::firsts))]
     pub fn first(self, from: u64, past: u64) -> u64
         ensures { result ≡ first (held self) from (past - from) }
     {
-        let mut n = from;
-        while n < past {
+        for n in from..past {
             if self.held(n) {
                 return n;
             }
-            n += 1;
         }
-        n
+        from.max(past)
     }
 
     // The ring with `s` under the number `number`; as it was where that has no place.
-    pub fn put(self, number: u64, s: Slot) -> Ring
+    #[tactic(auto, using(crate::proofs::Places::puts))]
+    pub fn put(self, number: u64, s: Option<Cid>) -> Ring
         ensures { result ≡ put self number s }
     {
-        if number < self.offset {
-            return self;
-        }
-        if number - self.offset >= PLACES {
+        if number < self.offset || number - self.offset >= PLACES {
             return self;
         }
         let mut slots = self.slots;
-        let place = (number % PLACES) as usize;
-        slots[place] = s;
-        Ring {
-            slots,
-            offset: self.offset,
-        }
+        slots[place(number)] = s;
+        Ring { slots, ..self }
     }
 
     // The ring with all below `to` gone and `to` its active number; as it was where the active number is not below that.
@@ -121,45 +107,33 @@ impl Ring {
             return self;
         }
         let mut slots = self.slots;
-        let none = vacant();
-        let mut at = self.offset;
-        let past = at + bounded::least(to - at, PLACES);
-        while at < past {
-            let place = (at % PLACES) as usize;
-            slots[place] = none;
-            at += 1;
+        let past = self.offset + (to - self.offset).min(PLACES);
+        for at in self.offset..past {
+            slots[place(at)] = None;
         }
         Ring { slots, offset: to }
     }
 
     // Whether what stands under the five numbers may stand there.
+    #[tactic(auto, using(crate::proofs::Laws::checks))]
     fn all_fit(self) -> bool
         requires { self.offset < 2 ^ 62 }
         ensures { result ≡ fits self self.offset 5 }
     {
-        let offset = self.offset;
-        let mut i = 0;
-        while i < PLACES {
-            let n = offset + i;
+        for n in self.offset..self.offset + PLACES {
             if !fit(self.slot(n), n) {
                 return false;
             }
-            i += 1;
         }
         true
     }
 
     // Whether the ring is in good form: its active number is held and below 2^62, and each id may stand where it does.
+    #[tactic(auto, using(crate::proofs::Laws::sounds), unfolding(crate::specs::Cids::sound))]
     pub fn sound(self) -> bool
         ensures { result ≡ sound self }
     {
-        if self.offset >= NUMBERS {
-            return false;
-        }
-        if !self.held(self.offset) {
-            return false;
-        }
-        self.all_fit()
+        self.offset < NUMBERS && self.held(self.offset) && self.all_fit()
     }
 }
 

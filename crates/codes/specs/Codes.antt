@@ -1,14 +1,6 @@
 -- The codes of the events, by name (docs/EVENTS.md). Assumes nothing.
 use Rattle.std.specs.Prelude.{ℕ}
 
--- a line that is no event: no such name
-abbrev pub UNKNOWN : ℕ
-UNKNOWN = 0
-
--- a line that is no event: words that do not fit
-abbrev pub UNFIT : ℕ
-UNFIT = 1
-
 -- ---- ct
 abbrev pub CT_EQ : ℕ
 CT_EQ = 16

@@ -1,11 +1,7 @@
 // The codes of the events: 16 a module, in the order in which the grammar has its names (docs/EVENTS.md). The definitions use the same names.
+// Numbers and no enum: `ledger::step` takes any code, and answers also for what is the code of no event (`step_of`).
 
 #![tactic(auto)]
-
-// A line that is no event: no such name, or words that do not fit it.
-pub const UNKNOWN: u8 = 0;
-
-pub const UNFIT: u8 = 1;
 
 // ct.eq
 pub const CT_EQ: u8 = 16;

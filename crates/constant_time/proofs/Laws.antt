@@ -41,9 +41,13 @@ pub bits_none_yet : (a b : List ℕ) → 0 ≡ bits_of a b 0
 unfolding bits_of
 bits_none_yet a b = refl
 
-pub bits_on : (a b : List ℕ) (n : ℕ) → bit_or (bits_of a b n) (bit_xor (get_or a n 0) (get_or b n 0)) ≡ bits_of a b (n + 1)
+bits_on : (a b : List ℕ) (n : ℕ) → bit_or (bits_of a b n) (bit_xor (get_or a n 0) (get_or b n 0)) ≡ bits_of a b (n + 1)
 unfolding bits_of
 bits_on a b n = rw (add-one n)
+
+pub bits_more : (a b : List ℕ) (n : ℕ) {m d x y : ℕ} → m ≡ n + 1 → d ≡ bits_of a b n → x ≡ get_or a n 0 → y ≡ get_or b n 0
+    → bit_or d (bit_xor x y) ≡ bits_of a b m
+bits_more a b n e f g h = rw (e, f, g, h) (bits_on a b n)
 
 pub passed : (a b : List ℕ) {d n : ℕ} → d ≡ bits_of a b n → n ≡ length a → record { bits = d; turns = n } ≡ differs a b
 unfolding turns_of

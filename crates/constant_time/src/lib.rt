@@ -6,7 +6,7 @@ ghost use Rattle.std.specs.Prelude.{◌≡◌, length};
 ghost use Rattle.constant_time.specs.Agree.{agree, differs};
 
 // What one pass over two strings of one length finds.
-#[derive(Clone, Copy)]
+#[derive(Clone, Copy, Debug, PartialEq, Eq)]
 pub struct Difference {
     // every bit in which two bytes at one place differ
     pub bits: u8,
@@ -21,8 +21,9 @@ fn differ(a: &[u8], b: &[u8]) -> Difference
 {
     let mut bits: u8 = 0;
     let mut turns = 0;
-    while turns < a.len() {
-        bits |= a[turns] ^ b[turns];
+    // counted, and not read off the length: `turns_all` says that the pass itself takes one turn a byte
+    for (x, y) in a.iter().zip(b) {
+        bits |= *x ^ *y;
         turns += 1;
     }
     Difference { bits, turns }

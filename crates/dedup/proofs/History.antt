@@ -8,11 +8,13 @@ use Prim.Native.Nat.{ℕ, ◌+◌, ◌^◌, ◌≤◌, ◌<◌, max}
 use native.Mathlib.Omega.{arith}
 use lib.Dec.{eqb, ltb}
 use borrow.Author.Tests.{lt-leb, le-leb, lt-ltb, le-ltb, leb-true, ltb-true, ltb-false, ne_eqb}
-use Rattle.answers.specs.Answers.{OK, RANGE}
+use Rattle.std.specs.Prelude.{Result, Err}
+use Rattle.answers.specs.declared.Refusal.{Refusal}
+use Rattle.answers.specs.declared.Refusal.TheVariants.{Range}
 use Rattle.dedup.specs.declared.Dedup.{Dedup}
 use Rattle.dedup.specs.declared.Inserted.{Inserted}
 use Rattle.dedup.specs.Dedup.{seen, too_old, told, inserted}
-use Rattle.dedup.specs.History.{noted, above, among, seen_after}
+use Rattle.dedup.specs.History.{left, noted, above, among, seen_after}
 use Rattle.dedup.proofs.Laws.{insert_range_law}
 use Rattle.dedup.proofs.Sets.{AsSets, as_sets, fresh_unseen}
 use Rattle.dedup.proofs.Dedup.new as new
@@ -23,7 +25,7 @@ use Rattle.dedup.proofs.Dedup.insert as insert
 abbrev pub New : Dedup → Type 0
 New w = new.Reads.Post tt tt w tt
 
-abbrev pub Insert : Dedup → ℕ → Inserted → Type 0
+abbrev pub Insert : Dedup → ℕ → Result Inserted Refusal → Type 0
 Insert w n r = insert.Reads.Post tt (w, (n, tt)) r (w, (n, tt))
 
 abbrev pub Next : Dedup → ℕ → Type 0
@@ -32,7 +34,7 @@ Next w x = next.Reads.Post tt (w, tt) x (w, tt)
 -- w is the window after the calls ns
 pub data Run : List ℕ → Dedup → Type 0 where
   start : {w : Dedup} → New w → Run [] w
-  call : {ns : List ℕ} {w : Dedup} {n : ℕ} {r : Inserted} → Run ns w → Insert w n r → Run (n ∷ ns) r.dedup
+  call : {ns : List ℕ} {w : Dedup} {n : ℕ} {r : Result Inserted Refusal} → Run ns w → Insert w n r → Run (n ∷ ns) (left w r)
 
 -- what holds after each call; `small` says that the window is well formed
 pub record Held (ns : List ℕ) (w : Dedup) : Type 0 where
@@ -50,13 +52,13 @@ unfolding seen_after
 started w p = rw p (record { at = refl; small = omega arith; says = λ m. fresh_unseen m ∙ sym (rw (lt-leb (m + 130) 0 (omega arith))) })
 
 module _ (ns : List ℕ) (w : Dedup) (n : ℕ) (h : Held ns w) where
-  refused : 2 ^ 62 ≤ n → Held (n ∷ ns) (inserted w n).dedup
+  refused : 2 ^ 62 ≤ n → Held (n ∷ ns) (left w (inserted w n))
   unfolding seen_after
   refused k =
-      rw (← (insert_range_law w n refl k))
+      rw (← (insert_range_law w n k))
       (record { at = rw (le-ltb n (2 ^ 62) k) h.at; small = h.small; says = λ m. rw (le-ltb n (2 ^ 62) k) (h.says m) })
 
-  taken : n < 2 ^ 62 → Held (n ∷ ns) (inserted w n).dedup
+  taken : n < 2 ^ 62 → Held (n ∷ ns) (left w (inserted w n))
   unfolding seen_after
   taken k =
       let s : AsSets w n (inserted w n) = as_sets w n k h.small in
@@ -73,7 +75,7 @@ module _ (ns : List ℕ) (w : Dedup) (n : ℕ) (h : Held ns w) where
             (λ e. le-leb (m + 130) (max a (n + 1)) (omega (arith, leb-true (m + 130) a e))));
       }
 
-  either : (b : Bool) → ltb n (2 ^ 62) ≡ b → Held (n ∷ ns) (inserted w n).dedup
+  either : (b : Bool) → ltb n (2 ^ 62) ≡ b → Held (n ∷ ns) (left w (inserted w n))
   either true e = taken (ltb-true n (2 ^ 62) e)
   either false e = refused (ltb-false n (2 ^ 62) e)
 
@@ -86,14 +88,16 @@ pub seen_history : {ns : List ℕ} {w : Dedup} → Run ns w → (m : ℕ) → se
 seen_history h = (held h).says
 
 -- and that is what the next call answers, of every packet number
-pub insert_history : {ns : List ℕ} {w : Dedup} {n : ℕ} {r : Inserted} → Run ns w → Insert w n r → n < 2 ^ 62 → (r.answer ≡ OK) × (r.seen ≡ seen_after ns n)
+pub insert_history : {ns : List ℕ} {w : Dedup} {n : ℕ} {r : Result Inserted Refusal} → Run ns w → Insert w n r → n < 2 ^ 62 → r ≡ told (seen_after ns n) (left w r)
 insert_history {ns} {w} {n} {r} h p k =
     let s : AsSets w n (inserted w n) = as_sets w n k (held h).small in
-    rw p (s.answer, s.told ∙ seen_history h n)
+    rw p (s.answer ∙ ap (λ (b : Bool). told b (left w (inserted w n))) (seen_history h n))
 
 -- what is no packet number is refused, and the window stays
-pub refused_history : {w : Dedup} {n : ℕ} {r : Inserted} → Insert w n r → 2 ^ 62 ≤ n → r ≡ told RANGE false w
-refused_history {w} {n} {r} p k = p ∙ sym (insert_range_law w n refl k)
+pub refused_history : {w : Dedup} {n : ℕ} {r : Result Inserted Refusal} → Insert w n r → 2 ^ 62 ≤ n → (r ≡ Err Range) × (left w r ≡ w)
+refused_history {w} {n} {r} p k =
+    let e : r ≡ Err Range = p ∙ sym (insert_range_law w n k) in
+    (e, rw e)
 
 -- `next` is one more than the highest noted, 0 where there is none
 pub next_history : {ns : List ℕ} {w : Dedup} {x : ℕ} → Run ns w → Next w x → x ≡ above (noted ns)
@@ -111,17 +115,21 @@ among_noted n (m ∷ ns) k = given (among_noted n ns k) (ltb m (2 ^ 62)) refl
         let d : n ≡ m → ⊥ = λ z. omega arith in
         rw (e, ne_eqb n m d, f)
 
+-- so where that is known to be b, the answer is b
+answers : {ns : List ℕ} {w : Dedup} {n : ℕ} {r : Result Inserted Refusal} {b : Bool} → Run ns w → Insert w n r → n < 2 ^ 62 → seen_after ns n ≡ b → r ≡ told b (left w r)
+answers h p k e = insert_history h p k ∙ rw e
+
 -- one that was noted is never called new
-pub noted_is_seen : {ns : List ℕ} {w : Dedup} {n : ℕ} {r : Inserted} → Run ns w → Insert w n r → n < 2 ^ 62 → among n ns ≡ true → r.seen ≡ true
+pub noted_is_seen : {ns : List ℕ} {w : Dedup} {n : ℕ} {r : Result Inserted Refusal} → Run ns w → Insert w n r → n < 2 ^ 62 → among n ns ≡ true → r ≡ told true (left w r)
 unfolding seen_after
-noted_is_seen {ns} {w} {n} h p k e = (insert_history h p k).1 ∙ ap (λ (b : Bool). too_old (above (noted ns)) n || b) (among_noted n ns k ∙ e) ∙ or-true (too_old (above (noted ns)) n)
+noted_is_seen {ns} {w} {n} h p k e = answers h p k (rw (among_noted n ns k, e) (or-true (too_old (above (noted ns)) n)))
 
 -- one that was never noted and is not too old is never called seen
-pub unnoted_is_new : {ns : List ℕ} {w : Dedup} {n : ℕ} {r : Inserted} → Run ns w → Insert w n r → n < 2 ^ 62 → among n ns ≡ false → above (noted ns) < n + 130 → r.seen ≡ false
+pub unnoted_is_new : {ns : List ℕ} {w : Dedup} {n : ℕ} {r : Result Inserted Refusal} → Run ns w → Insert w n r → n < 2 ^ 62 → among n ns ≡ false → above (noted ns) < n + 130 → r ≡ told false (left w r)
 unfolding seen_after
-unnoted_is_new {ns} {w} {n} h p k e l = (insert_history h p k).1 ∙ rw (lt-leb (n + 130) (above (noted ns)) l, among_noted n ns k, e)
+unnoted_is_new {ns} {w} {n} h p k e l = answers h p k (rw (lt-leb (n + 130) (above (noted ns)) l, among_noted n ns k, e))
 
 -- one that is too old is called seen, noted or not
-pub old_is_seen : {ns : List ℕ} {w : Dedup} {n : ℕ} {r : Inserted} → Run ns w → Insert w n r → n < 2 ^ 62 → n + 130 ≤ above (noted ns) → r.seen ≡ true
+pub old_is_seen : {ns : List ℕ} {w : Dedup} {n : ℕ} {r : Result Inserted Refusal} → Run ns w → Insert w n r → n < 2 ^ 62 → n + 130 ≤ above (noted ns) → r ≡ told true (left w r)
 unfolding seen_after
-old_is_seen {ns} {w} {n} h p k l = (insert_history h p k).1 ∙ rw (le-leb (n + 130) (above (noted ns)) l)
+old_is_seen {ns} {w} {n} h p k l = answers h p k (rw (le-leb (n + 130) (above (noted ns)) l))

@@ -10,8 +10,9 @@ use lib.Dec.{eqb, lit<, lit≤}
 use lib.Pow.{pow_mono, pow-lt, shr_le}
 use lib.Bits.{bit_or, or_lt}
 use borrow.Author.Tests.{lt-ltb, le-ltb, le-leb, lt-leb, eq-eqb, ne_eqb}
+use Rattle.std.specs.Prelude.{Err}
+use Rattle.answers.specs.declared.Refusal.TheVariants.{Range}
 use Rattle.dedup.specs.declared.Dedup.{Dedup}
-use Rattle.dedup.specs.declared.Inserted.{Inserted}
 use Rattle.dedup.specs.Bits.{bit}
 use Rattle.dedup.specs.Dedup.{place, recorded, with_number, seen, holding, told, inserted}
 use Rattle.dedup.proofs.BitLaws.{bit_shr, bit_shl, bit_shl_below, bit_or_law, bit_small, bit_zero, pack_bits}
@@ -122,11 +123,11 @@ words f n a b ha hb la lb =
 
 -- n is a packet number and the window is well formed
 module _ (w : Dedup) (n : ℕ) (hn : n < 2 ^ 62) (hx : w.next ≤ 2 ^ 62) where
-  pub inserted_new : seen w n ≡ false → inserted w n ≡ told 0 false (holding (with_number w n) (max w.next (n + 1)))
+  pub inserted_new : seen w n ≡ false → inserted w n ≡ told false (holding (with_number w n) (max w.next (n + 1)))
   unfolding inserted
   inserted_new s = rw (lt-ltb n (2 ^ 62) hn, le-leb w.next (2 ^ 62) hx, s)
 
-  pub inserted_seen : seen w n ≡ true → inserted w n ≡ told 0 true w
+  pub inserted_seen : seen w n ≡ true → inserted w n ≡ told true w
   unfolding inserted
   inserted_seen s = rw (lt-ltb n (2 ^ 62) hn, le-leb w.next (2 ^ 62) hx, s)
 
@@ -308,36 +309,36 @@ pub ruleset sets = (set_low, set_high)
 within : (w : Dedup) (n : ℕ) → n < w.next → (w.next - 1 - n ≡ 0 → ⊥) → w.next - 1 - n ≤ 128 → seen w n ≡ place w.low w.high (w.next - 1 - n - 1)
 within w n g z o = in_seen w n (w.next - 1 - n - 1) (omega arith) (omega arith)
 
--- ---- the returns of `insert`: r is what `told` hands back, the other premises are the code's own tests and what its callees promise
+-- ---- the returns of `insert`: the premises are the code's own tests and what its callees promise
 
-module _ (w : Dedup) (n : ℕ) {r : Inserted} where
-  pub insert_range_law : r ≡ told 2 false w → 2 ^ 62 ≤ n → r ≡ inserted w n
+module _ (w : Dedup) (n : ℕ) where
+  pub insert_range_law : 2 ^ 62 ≤ n → Err Range ≡ inserted w n
   unfolding inserted
-  insert_range_law t h = t ∙ rw (le-ltb n (2 ^ 62) h)
+  insert_range_law h = rw (le-ltb n (2 ^ 62) h)
 
-  pub insert_ill : r ≡ told 2 false w → n < 2 ^ 62 → 2 ^ 62 < w.next → r ≡ inserted w n
+  pub insert_ill : n < 2 ^ 62 → 2 ^ 62 < w.next → Err Range ≡ inserted w n
   unfolding inserted
-  insert_ill t h l = t ∙ rw (lt-ltb n (2 ^ 62) h, lt-leb w.next (2 ^ 62) l)
+  insert_ill h l = rw (lt-ltb n (2 ^ 62) h, lt-leb w.next (2 ^ 62) l)
 
-  pub insert_right : {v : Dedup} → r ≡ told 0 false v → v ≡ holding (with_number w n) (n + 1) → n < 2 ^ 62 → w.next ≤ 2 ^ 62 → w.next ≤ n → r ≡ inserted w n
-  insert_right t e hn hx g =
+  pub insert_right : {v : Dedup} → v ≡ holding (with_number w n) (n + 1) → n < 2 ^ 62 → w.next ≤ 2 ^ 62 → w.next ≤ n → told false v ≡ inserted w n
+  insert_right e hn hx g =
       let m : max w.next (n + 1) ≡ n + 1 = max-eq_right (omega arith) in
-      t ∙ ap (told 0 false) e ∙ sym (inserted_new w n hn hx (above_unseen w n g) ∙ rw m)
+      ap (told false) e ∙ sym (inserted_new w n hn hx (above_unseen w n g) ∙ rw m)
 
   module _ (hn : n < 2 ^ 62) (hx : w.next ≤ 2 ^ 62) (g : n < w.next) where
-    pub insert_top : r ≡ told 0 true w → w.next - 1 - n ≡ 0 → r ≡ inserted w n
-    insert_top t h = t ∙ sym (inserted_seen w n hn hx (top_seen w n (omega arith)))
+    pub insert_top : w.next - 1 - n ≡ 0 → told true w ≡ inserted w n
+    insert_top h = sym (inserted_seen w n hn hx (top_seen w n (omega arith)))
 
-    pub insert_old : r ≡ told 0 true w → 128 < w.next - 1 - n → r ≡ inserted w n
-    insert_old t h = t ∙ sym (inserted_seen w n hn hx (old_seen w n (omega arith)))
+    pub insert_old : 128 < w.next - 1 - n → told true w ≡ inserted w n
+    insert_old h = sym (inserted_seen w n hn hx (old_seen w n (omega arith)))
 
     module _ (z : w.next - 1 - n ≡ 0 → ⊥) (o : w.next - 1 - n ≤ 128) {b : Bool} (e : b ≡ place w.low w.high (w.next - 1 - n - 1)) where
-      pub insert_again : r ≡ told 0 true w → b ≡ true → r ≡ inserted w n
-      insert_again t y = t ∙ sym (inserted_seen w n hn hx (within w n g z o ∙ sym e ∙ y))
+      pub insert_again : b ≡ true → told true w ≡ inserted w n
+      insert_again y = sym (inserted_seen w n hn hx (within w n g z o ∙ sym e ∙ y))
 
-      pub insert_within : {v : Dedup} → r ≡ told 0 false v → v ≡ holding (with_number w n) w.next → b ≡ false → r ≡ inserted w n
-      insert_within t f y =
+      pub insert_within : {v : Dedup} → v ≡ holding (with_number w n) w.next → b ≡ false → told false v ≡ inserted w n
+      insert_within f y =
           let m : max w.next (n + 1) ≡ w.next = max-eq_left (omega arith) in
-          t ∙ ap (told 0 false) f ∙ sym (inserted_new w n hn hx (within w n g z o ∙ sym e ∙ y) ∙ rw m)
+          ap (told false) f ∙ sym (inserted_new w n hn hx (within w n g z o ∙ sym e ∙ y) ∙ rw m)
 
 pub ruleset inserts = (insert_range_law, insert_ill, insert_right, insert_top, insert_old, insert_again, insert_within)

@@ -11,11 +11,13 @@ use lib.Dec.{eqb, leb}
 use lib.Pow.{high, low}
 use lib.Arith.{digits_lt}
 use borrow.Author.Tests.{lt-leb, le-leb, eq-eqb, ne_eqb}
-use Rattle.answers.specs.Answers.{OK}
+use Rattle.std.specs.Prelude.{Result}
+use Rattle.answers.specs.declared.Refusal.{Refusal}
 use Rattle.dedup.specs.declared.Dedup.{Dedup}
 use Rattle.dedup.specs.declared.Inserted.{Inserted}
 use Rattle.dedup.specs.Bits.{bit, pack, num}
-use Rattle.dedup.specs.Dedup.{place, recorded, with_number, too_old, seen, holding, inserted, fresh}
+use Rattle.dedup.specs.Dedup.{place, recorded, with_number, too_old, seen, holding, told, inserted, fresh}
+use Rattle.dedup.specs.History.{left}
 use Rattle.dedup.proofs.BitLaws.{bit_mod}
 use Rattle.dedup.proofs.Laws.{three, same_test, place_low, place_high, recorded_below, above_unseen, top_seen, old_seen, inserted_new, inserted_seen}
 
@@ -132,12 +134,11 @@ module _ (w : Dedup) (n m : ℕ) (t : seen w n ≡ true) where
       (λ e. rw (eq-eqb m n e, or-true) (sym (ap (seen w) e ∙ t)))
       (λ l. differ (λ e. omega arith))
 
--- what r says and does as sets of numbers: n is seen if it was; and afterwards what is seen is what is too old now, n, and what was seen
-pub record AsSets (w : Dedup) (n : ℕ) (r : Inserted) : Type 0 where
-  pub answer : r.answer ≡ OK
-  pub told : r.seen ≡ seen w n
-  pub next : r.dedup.next ≡ max w.next (n + 1)
-  pub then : (m : ℕ) → seen r.dedup m ≡ (too_old (max w.next (n + 1)) m || (eqb m n || seen w m))
+-- what r says and does as sets of numbers: it is no refusal, and n is seen if it was; and afterwards what is seen is what is too old now, n, and what was seen
+pub record AsSets (w : Dedup) (n : ℕ) (r : Result Inserted Refusal) : Type 0 where
+  pub answer : r ≡ told (seen w n) (left w r)
+  pub next : (left w r).next ≡ max w.next (n + 1)
+  pub then : (m : ℕ) → seen (left w r) m ≡ (too_old (max w.next (n + 1)) m || (eqb m n || seen w m))
 
 module _ (w : Dedup) (n : ℕ) (hn : n < 2 ^ 62) (hx : w.next ≤ 2 ^ 62) where
   by_cases : (b : Bool) → seen w n ≡ b → AsSets w n (inserted w n)
@@ -147,16 +148,14 @@ module _ (w : Dedup) (n : ℕ) (hn : n < 2 ^ 62) (hx : w.next ≤ 2 ^ 62) where
       let e : max w.next (n + 1) ≡ w.next = max-eq_left (omega arith) in
       rw (inserted_seen w n hn hx t)
       (record {
-        answer = refl;
-        told = sym t;
+        answer = rw t;
         next = sym e;
         then = λ m. sym (ap (λ (x : ℕ). too_old x m || (eqb m n || seen w m)) e ∙ again w n m t);
       })
   by_cases false f =
       rw (inserted_new w n hn hx f)
       (record {
-        answer = refl;
-        told = sym f;
+        answer = rw f;
         next = refl;
         then = λ m. new w n m (max w.next (n + 1)) (omega arith) (omega arith) (⊎_elim (λ a. inl a.1) (λ b. inr b.1) (larger w.next (n + 1)));
       })

@@ -1,8 +1,9 @@
 -- The duplicate window as a set of numbers (01, Duplicate window; spaces.rs, Dedup: the highest number and 128 below it).
 -- A number n is held as its mark, n + 129, so that the places of a young window that lie below 0 have marks too. As in spaces.rs they are
 -- set like others when the window slides, and no number has such a mark. Assumes nothing.
-use Rattle.std.specs.Prelude.{ℕ, ◌+◌, ◌-◌, ◌^◌, max, Bool, true, false, cond, ◌||◌, ◌&&◌, eqb, ltb, leb}
-use Rattle.answers.specs.Answers.{OK, RANGE}
+use Rattle.std.specs.Prelude.{ℕ, ◌+◌, ◌-◌, ◌^◌, max, Bool, true, false, cond, ◌||◌, ◌&&◌, eqb, ltb, leb, Result, Ok, Err}
+use Rattle.answers.specs.declared.Refusal.{Refusal}
+use Rattle.answers.specs.declared.Refusal.TheVariants.{Range}
 use Rattle.dedup.specs.Bits.{bit, pack}
 use Rattle.dedup.specs.declared.Dedup.{Dedup}
 use Rattle.dedup.specs.declared.Inserted.{Inserted}
@@ -38,12 +39,13 @@ well_formed w = leb w.next (2 ^ 62)
 abbrev pub fresh : Dedup
 fresh = record { low = 0; high = 0; next = 0 }
 
-abbrev pub told : ℕ → Bool → Dedup → Inserted
-told a s w = record { answer = a; seen = s; dedup = w }
+-- a call that goes through: whether the number was seen, and the window after it
+abbrev pub told : Bool → Dedup → Result Inserted Refusal
+told s w = Ok (record { seen = s; dedup = w })
 
 -- what noting n answers, and the window after it
-unfoldable pub inserted : Dedup → ℕ → Inserted
+unfoldable pub inserted : Dedup → ℕ → Result Inserted Refusal
 inserted w n =
     cond (ltb n (2 ^ 62) && well_formed w)
-    (cond (seen w n) (told OK true w) (told OK false (holding (with_number w n) (max w.next (n + 1)))))
-    (told RANGE false w)
+    (cond (seen w n) (told true w) (told false (holding (with_number w n) (max w.next (n + 1)))))
+    (Err Range)

@@ -1,7 +1,15 @@
 -- What a history of calls comes to, as a set of numbers. A history is the numbers given to `insert` since `new`, the newest first.
 -- Assumes nothing.
-use Rattle.std.specs.Prelude.{ℕ, ◌+◌, ◌^◌, max, Bool, false, cond, ◌||◌, List, [], ◌∷◌, eqb, ltb}
+use Rattle.std.specs.Prelude.{ℕ, ◌+◌, ◌^◌, max, Bool, false, cond, ◌||◌, List, [], ◌∷◌, eqb, ltb, Result, Ok, Err}
+use Rattle.answers.specs.declared.Refusal.{Refusal}
+use Rattle.dedup.specs.declared.Dedup.{Dedup}
+use Rattle.dedup.specs.declared.Inserted.{Inserted}
 use Rattle.dedup.specs.Dedup.{too_old}
+
+-- the window after a call that was given w: a refusal leaves it as it was
+abbrev pub left : Dedup → Result Inserted Refusal → Dedup
+left w (Err e) = w
+left w (Ok i) = i.dedup
 
 -- the numbers that were noted: one of 2 ^ 62 or more is refused, and leaves no trace
 abbrev pub noted : List ℕ → List ℕ

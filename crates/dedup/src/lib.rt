@@ -3,9 +3,9 @@
 #![tactic(auto)]
 
 ghost use Rattle.std.specs.Prelude.{◌≡◌, ◌<◌, ◌≤◌, ◌+◌, ◌^◌};
-ghost use Rattle.dedup.specs.Dedup.{place, fresh, with_number, holding, told, inserted};
+ghost use Rattle.dedup.specs.Dedup.{place, fresh, with_number, holding, inserted};
 
-use answers::{OK, RANGE};
+use answers::Refusal;
 
 // Packet numbers are below this (RFC 9000, section 17.1).
 const LIMIT: u64 = 1 << 62;
@@ -20,9 +20,9 @@ pub struct Dedup {
     next: u64,
 }
 
+// What noting a packet number gives; a refusal is RANGE, and the window stays the caller's as it was.
 #[derive(Clone, Copy)]
 pub struct Inserted {
-    pub answer: u8,
     // Whether the packet might be a duplicate.
     pub seen: bool,
     pub dedup: Dedup,
@@ -48,31 +48,29 @@ impl Dedup {
     }
 
     // Notes a packet number, and says whether it was seen: noted before, or too old for the window.
-    pub fn insert(mut self, packet: u64) -> Inserted
+    pub fn insert(self, packet: u64) -> Result<Inserted, Refusal>
         ensures { result ≡ inserted self packet }
     {
-        if packet >= LIMIT {
-            return self.told(RANGE, false);
-        }
-        if self.next > LIMIT {
-            return self.told(RANGE, false);
+        if packet >= LIMIT || self.next > LIMIT {
+            return Err(Refusal::Range);
         }
         if packet >= self.next {
-            self = self.slide(packet);
-            return self.told(OK, false);
+            return Ok(Inserted {
+                seen: false,
+                dedup: self.slide(packet),
+            });
         }
         let back = self.next - 1 - packet;
-        if back == 0 {
-            return self.told(OK, true);
+        if back == 0 || back > 128 || self.is_set(back - 1) {
+            return Ok(Inserted {
+                seen: true,
+                dedup: self,
+            });
         }
-        if back > 128 {
-            return self.told(OK, true);
-        }
-        if is_set(self.low, self.high, back - 1) {
-            return self.told(OK, true);
-        }
-        self = self.mark(packet);
-        self.told(OK, false)
+        Ok(Inserted {
+            seen: false,
+            dedup: self.mark(packet),
+        })
     }
 
     // Right of the window: all places move up, until the number is the highest.
@@ -85,15 +83,13 @@ impl Dedup {
         if by >= 128 {
             self.high = 0;
             self.low = 0;
-            return self;
-        }
-        if by >= 64 {
+        } else if by >= 64 {
             self.high = ((self.low << 1) | 1) << (by - 64);
             self.low = 0;
-            return self;
+        } else {
+            self.high = ((self.high << 1) << by) | (self.low >> (63 - by));
+            self.low = ((self.low << 1) | 1) << by;
         }
-        self.high = ((self.high << 1) << by) | (self.low >> (63 - by));
-        self.low = ((self.low << 1) | 1) << by;
         self
     }
 
@@ -105,30 +101,21 @@ impl Dedup {
         let place = self.next - 2 - packet;
         if place < 64 {
             self.low |= 1 << place;
-            return self;
+        } else {
+            self.high |= 1 << (place - 64);
         }
-        self.high |= 1 << (place - 64);
         self
     }
 
-    fn told(self, answer: u8, seen: bool) -> Inserted
-        ensures { result ≡ told answer seen self }
+    // Whether a place is set, counted down from the number below the highest.
+    fn is_set(self, at: u64) -> bool
+        requires { at < 128 }
+        ensures { result ≡ place self.low self.high at }
     {
-        Inserted {
-            answer: answer,
-            seen: seen,
-            dedup: self,
+        if at < 64 {
+            (self.low >> at) % 2 == 1
+        } else {
+            (self.high >> (at - 64)) % 2 == 1
         }
     }
-}
-
-// Whether a place is set, counted down from the number below the highest.
-fn is_set(low: u64, high: u64, at: u64) -> bool
-    requires { at < 128 }
-    ensures { result ≡ place low high at }
-{
-    if at < 64 {
-        return (low >> at) % 2 == 1;
-    }
-    (high >> (at - 64)) % 2 == 1
 }

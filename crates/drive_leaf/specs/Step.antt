@@ -1,20 +1,17 @@
 -- What an event of a module without a state gives: its library's call, and nothing else (docs/EVENTS.md). The calls are those of constant_time (01,
 -- Token comparison), varint (01, Varint), packet_number (01, Packet numbers), ack_frame and ack_write (01, ACK frame). Assumes nothing.
-use Rattle.std.specs.Prelude.{ℕ, ◌-◌, ◌*◌, ◌/◌, cond, ◌||◌, List, ◌++◌, length, get_or, take, drop, eqb, ltb}
-use Rattle.answers.specs.Answers.{OK, RANGE}
+use Rattle.std.specs.Prelude.{ℕ, ◌-◌, ◌*◌, ◌/◌, cond, ◌||◌, List, ◌++◌, Result, Ok, Err, length, get_or, take, drop, eqb, ltb}
+use Rattle.answers.specs.Answers.{OK, RANGE, number}
+use Rattle.answers.specs.declared.Refusal.{Refusal}
 use Rattle.codes.specs.Codes.{CT_EQ, VI_DEC, VI_ENC, PN_NEW, PN_READ, AF_READ}
 use Rattle.constant_time.specs.Agree.{agree}
-use Rattle.varint.specs.declared.Got.{Got}
-use Rattle.varint.specs.declared.Got.TheVariants as got
-use Rattle.varint.specs.declared.Wrote.{Wrote}
-use Rattle.varint.specs.declared.Wrote.TheVariants as wrote
+use Rattle.varint.specs.declared.Decoded.{Decoded}
 use Rattle.varint.specs.Varint.{read_varint, write_varint}
 use Rattle.packet_number.specs.declared.Encoded.{Encoded}
 use Rattle.packet_number.specs.PacketNumber.{encode_of, expand_of}
 use Rattle.ack_frame.specs.declared.Ack.{Ack}
 use Rattle.ack_frame.specs.Read.{read_ack}
 use Rattle.ack_frame.specs.Read as acks
-use Rattle.ack_write.specs.declared.Written.{Written}
 use Rattle.ack_write.specs.Write.{write_ack}
 use Rattle.ack_write.specs.Write as frames
 use Rattle.said.specs.declared.Said.{Said}
@@ -42,37 +39,41 @@ compare_of s f e =
     cond (ltb e f || ltb (length s) e) (plainly RANGE) (give (said_number OK (bit_of (agree (take f s) (take (e - f) (drop f s))))))
 
 -- vi.dec: value and length
-abbrev pub value_of : Got → Gave
-value_of (got.Value v n) = give (said_two OK v n)
-value_of (got.Refused w) = plainly w
+abbrev pub value_of : Result Decoded Refusal → Gave
+value_of (Ok d) = give (said_two OK d.value d.len)
+value_of (Err w) = plainly (number w)
 
 unfoldable pub read_of : List ℕ → ℕ → Gave
 read_of s e = cond (ltb (length s) e) (plainly RANGE) (value_of (read_varint (take e s)))
 
 -- vi.enc: the bytes are at the start of the scratch m
-abbrev pub length_of : Wrote → Gave
-length_of (wrote.Len n) = record { said = said_plain OK; size = n; ranges = 0 }
-length_of (wrote.Refused w) = plainly w
+abbrev pub length_of : Result ℕ Refusal → Gave
+length_of (Ok n) = record { said = said_plain OK; size = n; ranges = 0 }
+length_of (Err w) = plainly (number w)
 
 unfoldable pub write_of : ℕ → List ℕ → Done
 write_of v m = done (length_of (write_varint m v).out) (write_varint m v).mem
 
 -- pn.new: the length, and the bytes at the start of the scratch m
-abbrev pub encoded_of : Encoded → Gave
-encoded_of r = record { said = said_number r.answer r.len; size = r.len; ranges = 0 }
+abbrev pub encoded_of : Result Encoded Refusal → Gave
+encoded_of (Ok r) = record { said = said_number OK r.len; size = r.len; ranges = 0 }
+encoded_of (Err w) = give (said_number (number w) 0)
 
 unfoldable pub number_of : ℕ → ℕ → List ℕ → Done
 number_of number acked m = done (encoded_of (encode_of m number acked).out) (encode_of m number acked).mem
 
 -- pn.read: all of the e bytes are the number's
+abbrev pub found_of : Result ℕ Refusal → Gave
+found_of (Ok n) = give (said_number OK n)
+found_of (Err w) = give (said_number (number w) 0)
+
 unfoldable pub expanded_of : List ℕ → ℕ → ℕ → Gave
-expanded_of s e largest =
-    cond (ltb (length s) e) (plainly RANGE)
-    (give (said_number (expand_of (take e s) e largest).answer (expand_of (take e s) e largest).number))
+expanded_of s e largest = cond (ltb (length s) e) (plainly RANGE) (found_of (expand_of (take e s) e largest))
 
 -- af.read: bytes taken and delay; the ranges are at the start of the list l, of which the frame gets so many places. More than there are is RANGE.
-abbrev pub ack_of : Ack → Gave
-ack_of r = record { said = said_two r.answer r.taken r.delay; size = 0; ranges = r.count }
+abbrev pub ack_of : Result Ack Refusal → Gave
+ack_of (Ok r) = record { said = said_two OK r.taken r.delay; size = 0; ranges = r.count }
+ack_of (Err w) = give (said_two (number w) 0 0)
 
 abbrev pub put_ranges : acks.Done → List ℕ → Done
 put_ranges d rest = done (ack_of d.out) (d.mem ++ rest)
@@ -84,11 +85,8 @@ frame_in s e places l =
 
 -- af.write: of k words the first is the space, the second the delay, the others the set; the bytes are at the start of the scratch m, of which the
 -- frame gets that space. More than there is is RANGE.
-abbrev pub written_of : Written → Gave
-written_of r = record { said = said_plain r.answer; size = r.len; ranges = 0 }
-
 abbrev pub put_frame : frames.Done → List ℕ → Done
-put_frame d rest = done (written_of d.out) (d.mem ++ rest)
+put_frame d rest = done (length_of d.out) (d.mem ++ rest)
 
 unfoldable pub frame_to : List ℕ → ℕ → List ℕ → Done
 frame_to ws k m =

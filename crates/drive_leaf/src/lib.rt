@@ -6,7 +6,6 @@ ghost use Rattle.drive_leaf.specs.Step.{plainly, compare_of, read_of, done, writ
 ghost use Rattle.answers.specs.Answers.{OK};
 
 use said::Said;
-use varint::{Got, Wrote};
 
 // What an event gave: the answer with its numbers, how many bytes stand in the lent scratch, and how many ranges in the lent list.
 #[derive(Clone, Copy)]
@@ -52,12 +51,12 @@ fn read_varint(bytes: &[u8], size: usize) -> Gave
         return plain(answers::RANGE);
     }
     match varint::read(&bytes[..size]) {
-        Got::Value { value, len } => Gave {
-            said: said::two(answers::OK, value, len as u64),
+        Ok(read) => Gave {
+            said: said::two(answers::OK, read.value, read.len as u64),
             size: 0,
             ranges: 0,
         },
-        Got::Refused(answer) => plain(answer),
+        Err(why) => plain(u8::from(why)),
     }
 }
 
@@ -66,12 +65,12 @@ fn write_varint(v: u64, scratch: &mut [u8]) -> Gave
     ensures { done result scratch.new ≡ write_of v scratch.old }
 {
     match varint::write(scratch, v) {
-        Wrote::Len(n) => Gave {
+        Ok(n) => Gave {
             said: said::plain(answers::OK),
             size: n,
             ranges: 0,
         },
-        Wrote::Refused(answer) => plain(answer),
+        Err(why) => plain(u8::from(why)),
     }
 }
 
@@ -79,11 +78,17 @@ fn write_varint(v: u64, scratch: &mut [u8]) -> Gave
 fn write_number(number: u64, acked: u64, scratch: &mut [u8]) -> Gave
     ensures { done result scratch.new ≡ number_of number acked scratch.old }
 {
-    let e = packet_number::encode(scratch, number, acked);
-    Gave {
-        said: said::number(e.answer, e.len as u64),
-        size: e.len,
-        ranges: 0,
+    match packet_number::encode(scratch, number, acked) {
+        Ok(e) => Gave {
+            said: said::number(answers::OK, e.len as u64),
+            size: e.len,
+            ranges: 0,
+        },
+        Err(why) => Gave {
+            said: said::number(u8::from(why), 0),
+            size: 0,
+            ranges: 0,
+        },
     }
 }
 
@@ -94,11 +99,17 @@ fn read_number(bytes: &[u8], size: usize, largest: u64) -> Gave
     if bytes.len() < size {
         return plain(answers::RANGE);
     }
-    let e = packet_number::expand(&bytes[..size], size, largest);
-    Gave {
-        said: said::number(e.answer, e.number),
-        size: 0,
-        ranges: 0,
+    match packet_number::expand(&bytes[..size], size, largest) {
+        Ok(number) => Gave {
+            said: said::number(answers::OK, number),
+            size: 0,
+            ranges: 0,
+        },
+        Err(why) => Gave {
+            said: said::number(u8::from(why), 0),
+            size: 0,
+            ranges: 0,
+        },
     }
 }
 
@@ -116,11 +127,17 @@ fn read_frame(bytes: &[u8], size: usize, places: u64, list: &mut [u64]) -> Gave
     if list.len() < end {
         return plain(answers::RANGE);
     }
-    let a = ack_frame::read(&bytes[..size], &mut list[..end]);
-    Gave {
-        said: said::two(a.answer, a.taken as u64, a.delay),
-        size: 0,
-        ranges: a.count,
+    match ack_frame::read(&bytes[..size], &mut list[..end]) {
+        Ok(a) => Gave {
+            said: said::two(answers::OK, a.taken as u64, a.delay),
+            size: 0,
+            ranges: a.count,
+        },
+        Err(why) => Gave {
+            said: said::two(u8::from(why), 0, 0),
+            size: 0,
+            ranges: 0,
+        },
     }
 }
 
@@ -138,16 +155,18 @@ fn write_frame(numbers: &[u64], count: usize, scratch: &mut [u8]) -> Gave
     if scratch.len() < end {
         return plain(answers::RANGE);
     }
-    let w = ack_write::write(
+    match ack_write::write(
         &mut scratch[..end],
         &numbers[2..count],
         (count - 2) / 2,
         numbers[1],
-    );
-    Gave {
-        said: said::plain(w.answer),
-        size: w.len,
-        ranges: 0,
+    ) {
+        Ok(n) => Gave {
+            said: said::plain(answers::OK),
+            size: n,
+            ranges: 0,
+        },
+        Err(why) => plain(u8::from(why)),
     }
 }
 
@@ -159,6 +178,7 @@ pub fn begin() -> Gave
 }
 
 // An event of a module without a state: `first` bytes are the first string of two, and `size` bytes are all.
+#[tactic(auto, unfolding(crate::specs::Step::step_of))]
 pub fn step(
     code: u8,
     numbers: &[u64; 32768],
@@ -171,23 +191,13 @@ pub fn step(
 ) -> Gave
     ensures { left result scratch.new list.new ≡ step_of code numbers.now count bytes.now first size scratch.old list.old }
 {
-    if code == codes::CT_EQ {
-        return compare(bytes, first, size);
+    match code {
+        codes::CT_EQ => compare(bytes, first, size),
+        codes::VI_DEC => read_varint(bytes, size),
+        codes::VI_ENC => write_varint(numbers[0], scratch),
+        codes::PN_NEW => write_number(numbers[0], numbers[1], scratch),
+        codes::PN_READ => read_number(bytes, size, numbers[0]),
+        codes::AF_READ => read_frame(bytes, size, numbers[0], list),
+        _ => write_frame(numbers, count, scratch),
     }
-    if code == codes::VI_DEC {
-        return read_varint(bytes, size);
-    }
-    if code == codes::VI_ENC {
-        return write_varint(numbers[0], scratch);
-    }
-    if code == codes::PN_NEW {
-        return write_number(numbers[0], numbers[1], scratch);
-    }
-    if code == codes::PN_READ {
-        return read_number(bytes, size, numbers[0]);
-    }
-    if code == codes::AF_READ {
-        return read_frame(bytes, size, numbers[0], list);
-    }
-    write_frame(numbers, count, scratch)
 }

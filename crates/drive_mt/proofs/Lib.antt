@@ -1,3 +1,2 @@
-pub mod Laws
 pub mod Determined
 pub mod Examples

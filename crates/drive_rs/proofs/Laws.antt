@@ -2,13 +2,12 @@
 use mathlib.Core.Path.{◌≡◌}
 use mathlib.Core.List.{List}
 use Prim.Native.Nat.{ℕ, ◌≤◌, ◌<◌, ◌*◌}
-use lib.ListN.{take, get_or}
-use borrow.Author.Tests.{le-leb, lt-leb, lt-ltb, le-ltb, eq-eqb, ne_eqb}
-use Rattle.codes.specs.Codes.{RS_CAP, RS_NEW}
+use lib.ListN.{take}
+use borrow.Author.Tests.{le-leb, lt-leb, lt-ltb, le-ltb}
 use Rattle.drive_sets.specs.declared.Did.{Did}
 use Rattle.drive_sets.specs.Sets as sets
 use Rattle.drive_rs.specs.declared.Ranges.{Ranges}
-use Rattle.drive_rs.specs.Step.{begun, words_of, with_did, put_front, both, cap_of, renew_of, change_of, step_of}
+use Rattle.drive_rs.specs.Step.{begun, words_of, with_did, put_front, both, cap_of, renew_of, change_of}
 
 pub begins : {d : Did} → d ≡ sets.none → record { did = d; places = 256; parts = 256 } ≡ begun
 begins e = rw e
@@ -46,17 +45,4 @@ module _ (n : ℕ) (ns : List ℕ) (r : Ranges) (m l : List ℕ) {d : Did} {x : 
   unfolding change_of
   change_in_law code e f g h = rw (h, ← e, ← f, ← g)
 
-module _ (code n : ℕ) (ns : List ℕ) (r : Ranges) (m l : List ℕ) {x : Ranges} where
-  pub step_cap : code ≡ RS_CAP → x ≡ cap_of (get_or ns 0 0) (get_or ns 1 0) r → both x m l ≡ step_of code n ns r m l
-  unfolding step_of
-  step_cap e f = rw (eq-eqb code RS_CAP e, f)
-
-  pub step_new : {m' l' : List ℕ} → (code ≡ RS_CAP → ⊥) → code ≡ RS_NEW → both x m' l' ≡ renew_of n ns r m l → both x m' l' ≡ step_of code n ns r m l
-  unfolding step_of
-  step_new e f g = rw (ne_eqb code RS_CAP e, eq-eqb code RS_NEW f) g
-
-  pub step_other : {m' l' : List ℕ} → (code ≡ RS_CAP → ⊥) → (code ≡ RS_NEW → ⊥) → both x m' l' ≡ change_of code n ns r m l → both x m' l' ≡ step_of code n ns r m l
-  unfolding step_of
-  step_other e f g = rw (ne_eqb code RS_CAP e, ne_eqb code RS_NEW f) g
-
-pub ruleset laws = (begins, words_few, words_many, cap_first, cap_second, cap_taken, renew_in_law, change_in_law, step_cap, step_new, step_other)
+pub ruleset laws = (begins, words_few, words_many, cap_first, cap_second, cap_taken, renew_in_law, change_in_law)

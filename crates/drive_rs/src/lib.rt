@@ -41,11 +41,7 @@ fn words(places: usize) -> usize
 fn with(did: Did, r: Ranges) -> Ranges
     ensures { result ≡ record { did = did; places = r.places; parts = r.parts } }
 {
-    Ranges {
-        did,
-        places: r.places,
-        parts: r.parts,
-    }
+    Ranges { did, ..r }
 }
 
 // rs.cap: other places from now on, and the set empty. More than the memory has is RANGE.
@@ -103,6 +99,7 @@ fn change(
 }
 
 // An event of the range set; n words are given.
+#[tactic(auto, unfolding(crate::specs::Step::step_of))]
 pub fn step(
     code: u8,
     n: usize,
@@ -113,11 +110,9 @@ pub fn step(
 ) -> Ranges
     ensures { both result memory.new list.new ≡ step_of code n numbers.now r memory.old list.old }
 {
-    if code == codes::RS_CAP {
-        return cap(numbers[0], numbers[1], r);
+    match code {
+        codes::RS_CAP => cap(numbers[0], numbers[1], r),
+        codes::RS_NEW => renew(n, numbers, r, memory, list),
+        _ => change(code, n, numbers, r, memory, list),
     }
-    if code == codes::RS_NEW {
-        return renew(n, numbers, r, memory, list);
-    }
-    change(code, n, numbers, r, memory, list)
 }

@@ -2,9 +2,12 @@
 #![tactic(auto)]
 
 ghost use Rattle.std.specs.Prelude.{◌≡◌};
-ghost use Rattle.drive_sets.specs.Sets.{began, note_of, plainly, valued, none, refused_of, counted, told_of, done, record_of, ask_of, edit_of, both, set_of, filled, renew_of};
+ghost use Rattle.drive_sets.specs.Sets.{began, note_of, plainly, valued, none, refused_of, value_of, told_of, popped_of, replaced_of, became_of, made, done, record_of, ask_of, edit_of, both, set_of, filled, renew_of};
 
+use answers::Refusal;
 use dedup::Dedup;
+use range_edit::{Changed, Replaced};
+use range_set::Popped;
 use said::Said;
 
 // What an event of the window gave.
@@ -31,11 +34,15 @@ pub fn note(code: u8, n: u64, d: Dedup) -> Noted
     if code == codes::DD_NEW {
         return begin();
     }
-    let r = d.insert(n);
-    let after = r.dedup;
-    Noted {
-        said: said::number(r.answer, said::bit(r.seen)),
-        dedup: after,
+    match d.insert(n) {
+        Ok(i) => Noted {
+            said: said::number(answers::OK, said::bit(i.seen)),
+            dedup: i.dedup,
+        },
+        Err(why) => Noted {
+            said: said::number(u8::from(why), 0),
+            dedup: d,
+        },
     }
 }
 
@@ -81,88 +88,115 @@ pub fn refused(d: Did) -> Did
     plain(answers::RANGE, d.count)
 }
 
-// A refusal leaves the count that was given.
-fn counted(answer: u8, before: usize, after: usize) -> usize
-    ensures { result ≡ counted answer before after }
+// What a question is answered with: its number; a refusal has 0.
+fn valued(r: Result<u64, Refusal>, count: usize) -> Did
+    ensures { result ≡ value_of r count }
 {
-    if answer == answers::OK { after } else { before }
+    match r {
+        Ok(x) => number(answers::OK, x, count),
+        Err(why) => number(u8::from(why), 0, count),
+    }
 }
 
-// What a change gives: 1 for yes, and the count after it.
-fn told(answer: u8, is: bool, before: usize, after: usize) -> Did
-    ensures { result ≡ told_of answer is before after }
+// What a change is answered with: 1 for yes, and the count after it. A refusal leaves the count that was given.
+fn told(r: Result<Changed, Refusal>, before: usize) -> Did
+    ensures { result ≡ told_of r before }
 {
-    number(answer, said::bit(is), counted(answer, before, after))
+    match r {
+        Ok(c) => number(answers::OK, said::bit(c.changed), c.count),
+        Err(why) => number(u8::from(why), 0, before),
+    }
+}
+
+// A pop: the range that was taken; a refusal has 0 and 0.
+fn popped(r: Result<Popped, Refusal>, before: usize) -> Did
+    ensures { result ≡ popped_of r before }
+{
+    match r {
+        Ok(p) => Did {
+            said: said::two(answers::OK, p.start, p.end),
+            count: p.count,
+            parts: 0,
+        },
+        Err(why) => Did {
+            said: said::two(u8::from(why), 0, 0),
+            count: before,
+            parts: 0,
+        },
+    }
+}
+
+// A replace: how many parts it reported.
+fn replaced(r: Result<Replaced, Refusal>, before: usize) -> Did
+    ensures { result ≡ replaced_of r before }
+{
+    match r {
+        Ok(p) => Did {
+            parts: p.parts,
+            ..plain(answers::OK, p.count)
+        },
+        Err(why) => plain(u8::from(why), before),
+    }
+}
+
+// A new set: no value.
+fn became(r: Result<Changed, Refusal>, before: usize) -> Did
+    ensures { result ≡ became_of r before }
+{
+    match r {
+        Ok(c) => plain(answers::OK, c.count),
+        Err(why) => plain(u8::from(why), before),
+    }
 }
 
 // pa.new, pa.insert and pa.below
+#[tactic(auto, unfolding(crate::specs::Sets::record_of))]
 pub fn record(code: u8, n: u64, list: &mut [u64], count: usize) -> Did
     ensures { done result list.new ≡ record_of code n list.old count }
 {
-    if code == codes::PA_NEW {
-        return empty();
+    match code {
+        codes::PA_NEW => empty(),
+        codes::PA_INSERT => {
+            let r = pending_acks::insert_one(list, count, n);
+            told(
+                r.map(|r| Changed {
+                    count: r.count,
+                    changed: r.new,
+                }),
+                count,
+            )
+        }
+        _ => told(pending_acks::subtract_below(list, count, n), count),
     }
-    if code == codes::PA_INSERT {
-        let r = pending_acks::insert_one(list, count, n);
-        return told(r.answer, r.new, count, r.count);
-    }
-    let r = pending_acks::subtract_below(list, count, n);
-    told(r.answer, r.changed, count, r.count)
 }
 
 // rs.contains, rs.min, rs.max, and else rs.len: the events that change nothing
+#[tactic(auto, unfolding(crate::specs::Sets::ask_of))]
 fn ask(code: u8, x: u64, list: &[u64], count: usize) -> Did
     ensures { result ≡ ask_of code x list.now count }
 {
-    if code == codes::RS_CONTAINS {
-        let r = range_set::contains(list, count, x);
-        return number(r.answer, said::bit(r.held), count);
+    match code {
+        codes::RS_CONTAINS => valued(range_set::contains(list, count, x).map(said::bit), count),
+        codes::RS_MIN => valued(range_set::min(list, count), count),
+        codes::RS_MAX => valued(range_set::max(list, count), count),
+        _ => valued(range_set::len(list, count).map(|n| n as u64), count),
     }
-    if code == codes::RS_MIN {
-        let r = range_set::min(list, count);
-        return number(r.answer, r.value, count);
-    }
-    if code == codes::RS_MAX {
-        let r = range_set::max(list, count);
-        return number(r.answer, r.value, count);
-    }
-    let r = range_set::len(list, count);
-    number(r.answer, r.count as u64, count)
 }
 
 // The events that change the set alone, and those that change nothing: a and b are the first two words, and `other` is the set of rs.add and rs.sub.
+#[tactic(auto, unfolding(crate::specs::Sets::edit_of))]
 fn edit(code: u8, a: u64, b: u64, other: &[u64], n: usize, list: &mut [u64], count: usize) -> Did
     ensures { done result list.new ≡ edit_of code a b other.now n list.old count }
 {
-    if code == codes::RS_ONE {
-        let r = range_set::insert_one(list, count, a);
-        return told(r.answer, r.changed, count, r.count);
+    match code {
+        codes::RS_ONE => told(range_set::insert_one(list, count, a), count),
+        codes::RS_INSERT => told(range_set::insert(list, count, a, b), count),
+        codes::RS_REMOVE => told(range_set::remove(list, count, a, b), count),
+        codes::RS_ADD => told(range_set::add(list, count, other, n), count),
+        codes::RS_SUB => told(range_set::subtract(list, count, other, n), count),
+        codes::RS_POP => popped(range_set::pop_min(list, count), count),
+        _ => ask(code, a, list, count),
     }
-    if code == codes::RS_INSERT {
-        let r = range_set::insert(list, count, a, b);
-        return told(r.answer, r.changed, count, r.count);
-    }
-    if code == codes::RS_REMOVE {
-        let r = range_set::remove(list, count, a, b);
-        return told(r.answer, r.changed, count, r.count);
-    }
-    if code == codes::RS_ADD {
-        let r = range_set::add(list, count, other, n);
-        return told(r.answer, r.changed, count, r.count);
-    }
-    if code == codes::RS_SUB {
-        let r = range_set::subtract(list, count, other, n);
-        return told(r.answer, r.changed, count, r.count);
-    }
-    if code == codes::RS_POP {
-        let r = range_set::pop_min(list, count);
-        return Did {
-            said: said::two(r.answer, r.start, r.end),
-            count: counted(r.answer, count, r.count),
-            parts: 0,
-        };
-    }
-    ask(code, a, list, count)
 }
 
 // An event of the range set but rs.new; the words are numbers[..n].
@@ -179,45 +213,32 @@ pub fn set(
     let a = numbers[0];
     let b = numbers[1];
     if code == codes::RS_REPLACE {
-        let r = range_set::replace(list, count, a, b, parts);
-        return Did {
-            said: said::plain(r.answer),
-            count: counted(r.answer, count, r.count),
-            parts: r.parts,
-        };
+        return replaced(range_set::replace(list, count, a, b, parts), count);
     }
     edit(code, a, b, numbers, n / 2, list, count)
 }
 
-// The n ranges of `numbers`, put into the empty set one by one, up to the first that is refused.
-fn fill(numbers: &[u64], n: usize, list: &mut [u64]) -> Did
-    ensures { done result list.new ≡ filled n numbers.now list.old 0 }
+// The n ranges of `numbers`, put into the empty set one by one, up to the first that is refused; how many ranges they make.
+fn fill(numbers: &[u64], n: usize, list: &mut [u64]) -> Result<usize, Refusal>
+    ensures { made result list.new ≡ filled n numbers.now list.old 0 }
 {
     let mut count = 0;
-    let mut i = 0;
-    while i < n {
+    for i in 0..n {
         if numbers.len() / 2 <= i {
-            return plain(answers::RANGE, count);
+            return Err(Refusal::Range);
         }
-        let r = range_set::insert(list, count, numbers[2 * i], numbers[2 * i + 1]);
-        if r.answer != answers::OK {
-            return plain(r.answer, count);
-        }
+        let r = range_set::insert(list, count, numbers[2 * i], numbers[2 * i + 1])?;
         count = r.count;
-        i += 1;
     }
-    plain(answers::OK, count)
+    Ok(count)
 }
 
 // rs.new: the words are numbers[..n]. The set is made in `spare`, so that a refusal leaves the list as it was.
 pub fn renew(numbers: &[u64], n: usize, list: &mut [u64], count: usize, spare: &mut [u64]) -> Did
     ensures { both result list.new spare.new ≡ renew_of numbers.now n list.old count spare.old }
 {
-    let made = fill(numbers, n / 2, spare);
-    let said = made.said;
-    if said.answer != answers::OK {
-        return plain(said.answer, count);
+    match fill(numbers, n / 2, spare) {
+        Ok(k) => became(range_set::add(list, 0, spare, k), count),
+        Err(why) => plain(u8::from(why), count),
     }
-    let r = range_set::add(list, 0, spare, made.count);
-    plain(r.answer, counted(r.answer, count, r.count))
 }

@@ -1,5 +1,5 @@
 -- The public promise fixes its outcome, since it is an equation of the answer and of both lent lists. Assumes nothing.
-use mathlib.Core.Path.{◌≡◌, sym, ap, ◌∙◌}
+use mathlib.Core.Path.{sym, ap, ◌∙◌}
 use Rattle.answers.proofs.Promise.{Whole}
 use Rattle.events.proofs.parse as parse
 

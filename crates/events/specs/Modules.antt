@@ -1,47 +1,41 @@
--- The modules: the three bytes that name each, as a number, the code of its first event, and its grammar. A grammar is a text, a name and then a word
--- of the kinds of its words, by turns; a name's code is its place in it, counted from the module's first code. Assumes nothing.
-use Rattle.std.specs.Prelude.{ℕ, List, [], ◌∷◌, cond, eqb}
-use Rattle.codes.specs.Codes.{UNKNOWN, CT_EQ, VI_DEC, PN_NEW, DD_INSERT, RS_INSERT, PA_INSERT, AF_READ, CQ_FRAME, MT_POLL, ST_DATA}
+-- The modules: the two letters that name each, the code of its first event, and its grammar. A grammar is a text, a name and then a word of the kinds
+-- of its words, by turns; a name's code is its place in it, counted from the module's first code. Assumes nothing.
+use Rattle.std.specs.Prelude.{ℕ, List, [], ◌∷◌, Option, Some, None, cond, ◌&&◌, length, get_or, ltb, eqb}
+use Rattle.codes.specs.Codes.{CT_EQ, VI_DEC, PN_NEW, DD_INSERT, RS_INSERT, PA_INSERT, AF_READ, CQ_FRAME, MT_POLL, ST_DATA}
+use Rattle.events.specs.declared.Module.{Module}
+use Rattle.events.specs.declared.Module.TheVariants.{Ct, Vi, Pn, Dd, Rs, Pa, Af, Cq, Mt, St}
 
--- ct.
-abbrev pub ct_module : ℕ
-ct_module = 6517806
+-- the module of two letters
+unfoldable pub named : ℕ → ℕ → Option Module
+named a b =
+    cond (eqb a 99 && eqb b 116) (Some Ct)
+    (cond (eqb a 118 && eqb b 105) (Some Vi)
+    (cond (eqb a 112 && eqb b 110) (Some Pn)
+    (cond (eqb a 100 && eqb b 100) (Some Dd)
+    (cond (eqb a 114 && eqb b 115) (Some Rs)
+    (cond (eqb a 112 && eqb b 97) (Some Pa)
+    (cond (eqb a 97 && eqb b 102) (Some Af)
+    (cond (eqb a 99 && eqb b 113) (Some Cq)
+    (cond (eqb a 109 && eqb b 116) (Some Mt)
+    (cond (eqb a 115 && eqb b 116) (Some St)
+    None)))))))))
 
--- vi.
-abbrev pub vi_module : ℕ
-vi_module = 7760174
+-- the module that a word begins with, two letters and a point; a name follows them
+unfoldable pub module_of : List ℕ → Option Module
+module_of s = cond (ltb (length s) 4) None (cond (eqb (get_or s 2 0) 46) (named (get_or s 0 0) (get_or s 1 0)) None)
 
--- pn.
-abbrev pub pn_module : ℕ
-pn_module = 7368238
-
--- dd.
-abbrev pub dd_module : ℕ
-dd_module = 6579246
-
--- rs.
-abbrev pub rs_module : ℕ
-rs_module = 7500590
-
--- pa.
-abbrev pub pa_module : ℕ
-pa_module = 7364910
-
--- af.
-abbrev pub af_module : ℕ
-af_module = 6383150
-
--- cq.
-abbrev pub cq_module : ℕ
-cq_module = 6517038
-
--- mt.
-abbrev pub mt_module : ℕ
-mt_module = 7173166
-
--- st.
-abbrev pub st_module : ℕ
-st_module = 7566382
+-- the code of a module's first event
+unfoldable pub base_of : Module → ℕ
+base_of Ct = CT_EQ
+base_of Vi = VI_DEC
+base_of Pn = PN_NEW
+base_of Dd = DD_INSERT
+base_of Rs = RS_INSERT
+base_of Pa = PA_INSERT
+base_of Af = AF_READ
+base_of Cq = CQ_FRAME
+base_of Mt = MT_POLL
+base_of St = ST_DATA
 
 -- eq hg
 abbrev pub ct_grammar : List ℕ
@@ -83,35 +77,14 @@ mt_grammar = 112 ∷ 111 ∷ 108 ∷ 108 ∷ 32 ∷ 110 ∷ 110 ∷ 32 ∷ 97 �
 abbrev pub st_grammar : List ℕ
 st_grammar = 100 ∷ 97 ∷ 116 ∷ 97 ∷ 32 ∷ 110 ∷ 110 ∷ 110 ∷ 110 ∷ 32 ∷ 114 ∷ 101 ∷ 115 ∷ 101 ∷ 116 ∷ 32 ∷ 110 ∷ 110 ∷ 32 ∷ 115 ∷ 116 ∷ 111 ∷ 112 ∷ 32 ∷ 110 ∷ 32 ∷ 114 ∷ 101 ∷ 97 ∷ 100 ∷ 32 ∷ 110 ∷ 110 ∷ 32 ∷ 115 ∷ 101 ∷ 101 ∷ 110 ∷ 32 ∷ 110 ∷ 32 ∷ 97 ∷ 110 ∷ 110 ∷ 111 ∷ 117 ∷ 110 ∷ 99 ∷ 101 ∷ 32 ∷ 110 ∷ 32 ∷ 115 ∷ 101 ∷ 110 ∷ 116 ∷ 32 ∷ 110 ∷ 32 ∷ 111 ∷ 112 ∷ 101 ∷ 110 ∷ 32 ∷ 100 ∷ 32 ∷ 119 ∷ 97 ∷ 110 ∷ 116 ∷ 32 ∷ 100 ∷ 110 ∷ 32 ∷ 109 ∷ 97 ∷ 120 ∷ 115 ∷ 116 ∷ 114 ∷ 101 ∷ 97 ∷ 109 ∷ 115 ∷ 32 ∷ 100 ∷ 110 ∷ 32 ∷ 99 ∷ 114 ∷ 101 ∷ 100 ∷ 105 ∷ 116 ∷ 32 ∷ 110 ∷ 32 ∷ 122 ∷ 114 ∷ 101 ∷ 106 ∷ 32 ∷ 45 ∷ 32 ∷ 119 ∷ 105 ∷ 110 ∷ 100 ∷ 111 ∷ 119 ∷ 32 ∷ 110 ∷ 32 ∷ 110 ∷ 101 ∷ 119 ∷ 32 ∷ 115 ∷ 110 ∷ 110 ∷ 110 ∷ 110 ∷ []
 
--- the code of a module's first event; UNKNOWN where there is no such module
-unfoldable pub base_of : ℕ → ℕ
-base_of m =
-    cond (eqb m ct_module) CT_EQ
-    (cond (eqb m vi_module) VI_DEC
-    (cond (eqb m pn_module) PN_NEW
-    (cond (eqb m dd_module) DD_INSERT
-    (cond (eqb m rs_module) RS_INSERT
-    (cond (eqb m pa_module) PA_INSERT
-    (cond (eqb m af_module) AF_READ
-    (cond (eqb m cq_module) CQ_FRAME
-    (cond (eqb m mt_module) MT_POLL
-    (cond (eqb m st_module) ST_DATA
-    UNKNOWN)))))))))
-
--- the grammar of a module, among the ten; none where there is no such module
-unfoldable pub among : ℕ → List ℕ → List ℕ → List ℕ → List ℕ → List ℕ → List ℕ → List ℕ → List ℕ → List ℕ → List ℕ → List ℕ
-among m ct vi pn dd rs pa af cq mt st =
-    cond (eqb m ct_module) ct
-    (cond (eqb m vi_module) vi
-    (cond (eqb m pn_module) pn
-    (cond (eqb m dd_module) dd
-    (cond (eqb m rs_module) rs
-    (cond (eqb m pa_module) pa
-    (cond (eqb m af_module) af
-    (cond (eqb m cq_module) cq
-    (cond (eqb m mt_module) mt
-    (cond (eqb m st_module) st
-    [])))))))))
-
-unfoldable pub grammar_of : ℕ → List ℕ
-grammar_of m = among m ct_grammar vi_grammar pn_grammar dd_grammar rs_grammar pa_grammar af_grammar cq_grammar mt_grammar st_grammar
+unfoldable pub grammar_of : Module → List ℕ
+grammar_of Ct = ct_grammar
+grammar_of Vi = vi_grammar
+grammar_of Pn = pn_grammar
+grammar_of Dd = dd_grammar
+grammar_of Rs = rs_grammar
+grammar_of Pa = pa_grammar
+grammar_of Af = af_grammar
+grammar_of Cq = cq_grammar
+grammar_of Mt = mt_grammar
+grammar_of St = st_grammar

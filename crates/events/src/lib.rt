@@ -2,36 +2,85 @@
 // text a module, a name and then the kinds of its words, so that the whole grammar stands in one place.
 #![tactic(auto)]
 
-ghost use Rattle.std.specs.Prelude.{◌≡◌, ◌+◌, ◌<◌, ◌≤◌, length};
+ghost use Rattle.std.specs.Prelude.{◌≡◌, ◌+◌, ◌<◌, ◌≤◌, length, IfSome};
 ghost use Rattle.words.specs.Words.{both};
-ghost use Rattle.events.specs.Modules.{base_of, among};
-ghost use Rattle.events.specs.Events.{find_in, no_event, finished, event_in, module_at, event_of};
+ghost use Rattle.events.specs.Modules.{named, module_of, base_of, grammar_of};
+ghost use Rattle.events.specs.Events.{find_in, finished, event_in, event_of};
 
+use text::Word;
 use words::Cursor;
 
-// The three bytes that name a module, as a number: two letters and a point.
-const CT: u64 = 0x63742e;
+// The modules. Each has a name of two letters, at the start of its events' names.
+#[derive(Clone, Copy)]
+enum Module {
+    // constant_time
+    Ct,
+    // varint
+    Vi,
+    // packet_number
+    Pn,
+    // dedup
+    Dd,
+    // range_set
+    Rs,
+    // pending_acks
+    Pa,
+    // ack_frame
+    Af,
+    // cid_queue
+    Cq,
+    // mtud
+    Mt,
+    // streams
+    St,
+}
 
-const VI: u64 = 0x76692e;
+impl Module {
+    // The code of its first event.
+    #[tactic(auto, unfolding(crate::specs::Modules::base_of))]
+    fn base(self) -> u8
+        ensures value { result ≡ base_of self }
+        ensures upper_bound { result ≤ 160 }
+    {
+        match self {
+            Module::Ct => codes::CT_EQ,
+            Module::Vi => codes::VI_DEC,
+            Module::Pn => codes::PN_NEW,
+            Module::Dd => codes::DD_INSERT,
+            Module::Rs => codes::RS_INSERT,
+            Module::Pa => codes::PA_INSERT,
+            Module::Af => codes::AF_READ,
+            Module::Cq => codes::CQ_FRAME,
+            Module::Mt => codes::MT_POLL,
+            Module::St => codes::ST_DATA,
+        }
+    }
 
-const PN: u64 = 0x706e2e;
-
-const DD: u64 = 0x64642e;
-
-const RS: u64 = 0x72732e;
-
-const PA: u64 = 0x70612e;
-
-const AF: u64 = 0x61662e;
-
-const CQ: u64 = 0x63712e;
-
-const MT: u64 = 0x6d742e;
-
-const ST: u64 = 0x73742e;
+    // Its grammar: a name and the kinds of its words, by turns.
+    #[tactic(auto, unfolding(crate::specs::Modules::grammar_of))]
+    fn grammar(self) -> &'static [u8]
+        ensures { result.now ≡ grammar_of self }
+    {
+        match self {
+            Module::Ct => b"eq hg",
+            Module::Vi => b"dec h enc n",
+            Module::Pn => b"new nn read hn",
+            Module::Dd => b"insert n new -",
+            Module::Rs =>
+                b"insert nn remove nn contains n one n replace nn min - max - len - pop - new * add * sub * cap nn",
+            Module::Pa => b"insert n below n new -",
+            Module::Af => b"read hn write nn*",
+            Module::Cq => b"frame nnhg next - active - reset h new h update h",
+            Module::Mt =>
+                b"poll nn ack nn lost nn plost - hole n peer n new nnonnnn off nn reset nn",
+            Module::St =>
+                b"data nnnn reset nn stop n read nn seen n announce n sent n open d want dn maxstreams dn credit n zrej - window n new snnnn",
+        }
+    }
+}
 
 // An event: its code; how many numbers it has; and of its byte strings, which lie one behind the other, where the first ends and where all end.
-#[derive(Clone, Copy)]
+#[derive(Clone, Copy, Debug, PartialEq, Eq)]
 pub struct Event {
     pub code: u8,
     pub count: usize,
@@ -39,190 +88,114 @@ pub struct Event {
     pub size: usize,
 }
 
+// Why a line is no event.
+#[derive(Clone, Copy, Debug, PartialEq, Eq)]
+pub enum NoEvent {
+    // No event has its name.
+    Unknown,
+    // Its words do not fit the event of its name.
+    Unfit,
+}
+
 // The event whose words were read: they fitted, and there are no more.
-fn finish(line: &[u8], code: u8, c: Cursor) -> Event
+fn finish(line: &[u8], code: u8, c: Cursor) -> Result<Event, NoEvent>
     ensures { result ≡ finished line.now code c }
 {
-    if !c.ok {
-        return none(codes::UNFIT);
-    }
-    if text::is_end(line, c.at) {
-        return Event {
+    if c.ok && text::is_end(line, c.at) {
+        return Ok(Event {
             code,
             count: c.count,
             first: c.first,
             size: c.size,
-        };
+        });
     }
-    none(codes::UNFIT)
+    Err(NoEvent::Unfit)
 }
 
-fn none(code: u8) -> Event
-    ensures { result ≡ no_event code }
-{
-    Event {
-        code,
-        count: 0,
-        first: 0,
-        size: 0,
-    }
-}
-
-// Where a name stands in a grammar, counted from 0, and its shape; 16 where it is not there.
+// Where a name stands in a grammar, counted from 0, and the word behind it, its shape.
 #[derive(Clone, Copy)]
-pub struct Found {
-    pub index: u8,
-    pub start: usize,
-    pub end: usize,
+struct Found {
+    index: u8,
+    shape: Word,
 }
 
-fn find(grammar: &[u8], name: &[u8]) -> Found
+// A name in a grammar, which has no more than 16.
+fn find(grammar: &[u8], name: &[u8]) -> Option<Found>
     ensures value { result ≡ find_in grammar.now name.now }
-    ensures index_bound { (result.index ≤ 16) × ((result.start ≤ result.end) × (result.end ≤ length grammar.now)) }
+    ensures index_bound { IfSome result (λ f. f.index < 16) }
+    ensures in_bounds { IfSome result (λ f. (f.shape.start ≤ f.shape.end) × (f.shape.end ≤ length grammar.now)) }
 {
     let mut at = 0;
-    let mut k: u8 = 0;
-    while k < 16 {
+    for index in 0..16u8 {
         let w = text::word_at(grammar, at);
-        let start = w.start;
-        let end = w.end;
-        let shape = text::word_at(grammar, end);
-        if text::same(&grammar[start..end], name) {
-            return Found {
-                index: k,
-                start: shape.start,
-                end: shape.end,
-            };
+        let shape = text::word_at(grammar, w.end);
+        if text::same(&grammar[w.start..w.end], name) {
+            return Some(Found { index, shape });
         }
         at = shape.end;
-        k += 1;
     }
-    Found {
-        index: 16,
-        start: 0,
-        end: 0,
-    }
+    None
 }
 
-// The event of a module with the codes from `base` on: its name stands in the grammar, and its words fit.
+// The event of a module: its name stands in the grammar, and its words, from `at` on, fit.
 fn event_in(
     line: &[u8],
     name: &[u8],
     at: usize,
-    base: u8,
-    grammar: &[u8],
+    m: Module,
     numbers: &mut [u64],
     bytes: &mut [u8],
-) -> Event
-    requires { base ≤ 239 }
-    ensures { both result numbers.new bytes.new ≡ event_in line.now name.now at base grammar.now numbers.old bytes.old }
+) -> Result<Event, NoEvent>
+    ensures { both result numbers.new bytes.new ≡ event_in line.now name.now at m numbers.old bytes.old }
 {
-    let f = find(grammar, name);
-    if f.index == 16 {
-        return none(codes::UNKNOWN);
-    }
-    let start = f.start;
-    let end = f.end;
-    let c = words::take(line, at, &grammar[start..end], numbers, bytes);
-    finish(line, base + f.index, c)
+    let grammar = m.grammar();
+    let Some(f) = find(grammar, name) else {
+        return Err(NoEvent::Unknown);
+    };
+    let shape = &grammar[f.shape.start..f.shape.end];
+    let c = words::take(line, at, shape, numbers, bytes);
+    finish(line, m.base() + f.index, c)
 }
 
-fn wide(b: u8) -> u64
-    ensures { (result ≡ b) × (result < 256) }
+// The module of two letters.
+#[tactic(auto, unfolding(crate::specs::Modules::named))]
+fn named(a: u8, b: u8) -> Option<Module>
+    ensures { result ≡ named a b }
 {
-    b as u64
-}
-
-// The first word's three bytes up to its point, as a number; 0 where nothing follows them.
-fn module(line: &[u8], start: usize, end: usize) -> u64
-    requires { (start ≤ end) × (end ≤ length line.now) }
-    ensures value { result ≡ module_at line.now start end }
-    ensures start_bound { (result ≡ 0 → ⊥) → start + 3 ≤ end }
-{
-    if end - start < 4 {
-        return 0;
-    }
-    (wide(line[start]) * 256 + wide(line[start + 1])) * 256 + wide(line[start + 2])
-}
-
-// The code of a module's first event; 0 where there is no such module.
-fn base(m: u64) -> u8
-    ensures value { result ≡ base_of m }
-    ensures upper_bound { (result ≤ 160) × ((result ≡ 0 → ⊥) → m ≡ 0 → ⊥) }
-{
-    match m {
-        CT => codes::CT_EQ,
-        VI => codes::VI_DEC,
-        PN => codes::PN_NEW,
-        DD => codes::DD_INSERT,
-        RS => codes::RS_INSERT,
-        PA => codes::PA_INSERT,
-        AF => codes::AF_READ,
-        CQ => codes::CQ_FRAME,
-        MT => codes::MT_POLL,
-        ST => codes::ST_DATA,
-        _ => codes::UNKNOWN,
+    match (a, b) {
+        (b'c', b't') => Some(Module::Ct),
+        (b'v', b'i') => Some(Module::Vi),
+        (b'p', b'n') => Some(Module::Pn),
+        (b'd', b'd') => Some(Module::Dd),
+        (b'r', b's') => Some(Module::Rs),
+        (b'p', b'a') => Some(Module::Pa),
+        (b'a', b'f') => Some(Module::Af),
+        (b'c', b'q') => Some(Module::Cq),
+        (b'm', b't') => Some(Module::Mt),
+        (b's', b't') => Some(Module::St),
+        _ => None,
     }
 }
 
-// The grammar of a module, among the ten, which a caller has to hand in: a text that a function writes down does not outlive it.
-fn grammar<'a>(
-    m: u64,
-    ct: &'a [u8],
-    vi: &'a [u8],
-    pn: &'a [u8],
-    dd: &'a [u8],
-    rs: &'a [u8],
-    pa: &'a [u8],
-    af: &'a [u8],
-    cq: &'a [u8],
-    mt: &'a [u8],
-    st: &'a [u8],
-) -> &'a [u8]
-    ensures { result.now ≡ among m ct.now vi.now pn.now dd.now rs.now pa.now af.now cq.now mt.now st.now }
+// The module that a word begins with, two letters and a point; a name follows them.
+fn module_of(word: &[u8]) -> Option<Module>
+    ensures value { result ≡ module_of word.now }
+    ensures length_bound { IfSome result (λ m. 4 ≤ length word.now) }
 {
-    match m {
-        CT => ct,
-        VI => vi,
-        PN => pn,
-        DD => dd,
-        RS => rs,
-        PA => pa,
-        AF => af,
-        CQ => cq,
-        MT => mt,
-        ST => st,
-        _ => &ct[..0],
+    if word.len() < 4 || word[2] != b'.' {
+        return None;
     }
+    named(word[0], word[1])
 }
 
 // The event that a line is, whose numbers and bytes go to the start of the lent memory.
-pub fn parse(line: &[u8], numbers: &mut [u64], bytes: &mut [u8]) -> Event
+pub fn parse(line: &[u8], numbers: &mut [u64], bytes: &mut [u8]) -> Result<Event, NoEvent>
     ensures { both result numbers.new bytes.new ≡ event_of line.now numbers.old bytes.old }
 {
     let w = text::word_at(line, 0);
-    let start = w.start;
-    let end = w.end;
-    let m = module(line, start, end);
-    let first = base(m);
-    if first == codes::UNKNOWN {
-        return none(codes::UNKNOWN);
-    }
-    let op = start + 3;
-    let name = &line[op..end];
-    // a name and the kinds of its words, by turns
-    let g = grammar(
-        m,
-        b"eq hg",
-        b"dec h enc n",
-        b"new nn read hn",
-        b"insert n new -",
-        b"insert nn remove nn contains n one n replace nn min - max - len - pop - new * add * sub * cap nn",
-        b"insert n below n new -",
-        b"read hn write nn*",
-        b"frame nnhg next - active - reset h new h update h",
-        b"poll nn ack nn lost nn plost - hole n peer n new nnonnnn off nn reset nn",
-        b"data nnnn reset nn stop n read nn seen n announce n sent n open d want dn maxstreams dn credit n zrej - window n new snnnn",
-    );
-    event_in(line, name, end, first, g, numbers, bytes)
+    let word = &line[w.start..w.end];
+    let Some(m) = module_of(word) else {
+        return Err(NoEvent::Unknown);
+    };
+    event_in(line, &word[3..], w.end, m, numbers, bytes)
 }

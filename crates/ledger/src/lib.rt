@@ -54,6 +54,7 @@ fn leaf(
 }
 
 // One event: what is no event (a code below CT_EQ) leaves all as it was.
+#[tactic(auto, unfolding(crate::specs::Ledger::step_of, crate::specs::Ledger::event_of))]
 pub fn step(
     e: Event,
     numbers: &[u64; 32768],
@@ -71,15 +72,20 @@ pub fn step(
     }
     s.code = code;
     let kind = code / 16;
-    if (kind < 4) | (kind == 7) {
-        return leaf(e, numbers, bytes, scratch, s, list);
+    // The modules 0 to 3 and 7 have no state, 4 to 6 are of the lists, the others of the peer.
+    match kind {
+        0..=3 | 7 => leaf(e, numbers, bytes, scratch, s, list),
+        4..=6 => {
+            let l = ledger_lists::step(kind, code, e.count, numbers, s.lists, memory, list);
+            s.lists = l;
+            s
+        }
+        _ => {
+            let p = ledger_peers::step(
+                kind, code, e.first, e.size, numbers, bytes, s.peers, memory,
+            );
+            s.peers = p;
+            s
+        }
     }
-    if kind < 7 {
-        let l = ledger_lists::step(kind, code, e.count, numbers, s.lists, memory, list);
-        s.lists = l;
-        return s;
-    }
-    let p = ledger_peers::step(kind, code, e.first, e.size, numbers, bytes, s.peers, memory);
-    s.peers = p;
-    s
 }

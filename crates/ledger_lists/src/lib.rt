@@ -46,7 +46,13 @@ fn acks(code: u8, n: u64, count: usize, memory: &mut [u64]) -> Did
     drive_sets::record(code, n, &mut memory[from..to], count)
 }
 
-// One event: of the duplicate window (module 4), the range set (5) or the recorder (any other).
+// The modules: of the duplicate window and of the range set. Any other is the recorder's.
+const WINDOW: u8 = 4;
+
+const RANGES: u8 = 5;
+
+// One event of the module `kind`.
+#[tactic(auto, unfolding(crate::specs::Step::step_of))]
 pub fn step(
     kind: u8,
     code: u8,
@@ -58,19 +64,23 @@ pub fn step(
 ) -> Lists
     ensures { listed result memory.new list.new ≡ step_of kind code count numbers.now s memory.old list.old }
 {
-    if kind == 4 {
-        let old = s.window;
-        let w = drive_sets::note(code, numbers[0], old.dedup);
-        s.window = w;
-        return s;
+    match kind {
+        WINDOW => {
+            let old = s.window;
+            let w = drive_sets::note(code, numbers[0], old.dedup);
+            s.window = w;
+            s
+        }
+        RANGES => {
+            let r = drive_rs::step(code, count, numbers, s.ranges, memory, list);
+            s.ranges = r;
+            s
+        }
+        _ => {
+            let old = s.acks;
+            let d = acks(code, numbers[0], old.count, memory);
+            s.acks = d;
+            s
+        }
     }
-    if kind == 5 {
-        let r = drive_rs::step(code, count, numbers, s.ranges, memory, list);
-        s.ranges = r;
-        return s;
-    }
-    let old = s.acks;
-    let d = acks(code, numbers[0], old.count, memory);
-    s.acks = d;
-    s
 }

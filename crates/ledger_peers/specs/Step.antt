@@ -1,12 +1,12 @@
 -- What an event of the connection ids, the MTU search or the books of the streams does to what a connection keeps of them (docs/EVENTS.md): it is its
 -- module's step on its part. The words of the line are the numbers `ns`, its bytes `bs`, of which the first word's end at `a` and all at `n`; `m` is the
 -- lent memory. Assumes nothing.
-use Rattle.std.specs.Prelude.{ℕ, cond, List, eqb}
+use Rattle.std.specs.Prelude.{ℕ, cond, List, eqb, Option}
 use Rattle.drive_cq.specs.declared.Gave as cq_declared
 use Rattle.drive_cq.specs.Step as cq
 use Rattle.drive_mt.specs.declared.Gave as mt_declared
 use Rattle.drive_mt.specs.Step as mt
-use Rattle.drive_st.specs.declared.Kept as st_kept
+use Rattle.drive_st.specs.declared.Books as st_books
 use Rattle.drive_st.specs.declared.Gave as st_declared
 use Rattle.drive_st.specs.Step as st
 use Rattle.ledger_lists.specs.Memory.{TABLE, MEMORY, part, put_part}
@@ -30,7 +30,7 @@ with_streams s g = record { cids = s.cids; mtud = s.mtud; streams = g }
 abbrev pub books_in : List ℕ → st.Stepped → st.Stepped
 books_in m d = st.done d.out (put_part TABLE MEMORY m d.words)
 
-unfoldable pub books_of : ℕ → List ℕ → st_kept.Kept → List ℕ → st.Stepped
+unfoldable pub books_of : ℕ → List ℕ → Option st_books.Books → List ℕ → st.Stepped
 books_of code ns k m = books_in m (st.step_of code ns (part TABLE MEMORY m) k)
 
 -- what an event leaves: what is kept, and the memory

@@ -32,7 +32,12 @@ pub fn begin() -> Peers
 }
 
 // The books of the streams, in their part of the memory.
-fn books(code: u8, numbers: &[u64; 32768], k: drive_st::Kept, memory: &mut [u64]) -> drive_st::Gave
+fn books(
+    code: u8,
+    numbers: &[u64; 32768],
+    k: Option<drive_st::Books>,
+    memory: &mut [u64],
+) -> drive_st::Gave
     requires { 2432 ≤ length memory.old }
     ensures { st.done result memory.new ≡ books_of code numbers.now k memory.old }
 {
@@ -41,7 +46,13 @@ fn books(code: u8, numbers: &[u64; 32768], k: drive_st::Kept, memory: &mut [u64]
     drive_st::step(code, numbers, &mut memory[from..to], k)
 }
 
-// One event: of the connection ids (module 8), the MTU search (9) or the books of the streams (any other).
+// The modules: of the connection ids and of the MTU search. Any other is that of the streams.
+const CIDS: u8 = 8;
+
+const MTUD: u8 = 9;
+
+// One event of the module `kind`.
+#[tactic(auto, unfolding(crate::specs::Step::step_of))]
 pub fn step(
     kind: u8,
     code: u8,
@@ -54,20 +65,24 @@ pub fn step(
 ) -> Peers
     ensures { peered result memory.new ≡ step_of kind code first size numbers.now bytes.now s memory.old }
 {
-    if kind == 8 {
-        let old = s.cids;
-        let g = drive_cq::step(code, numbers, bytes, first, size, old.kept);
-        s.cids = g;
-        return s;
+    match kind {
+        CIDS => {
+            let old = s.cids;
+            let g = drive_cq::step(code, numbers, bytes, first, size, old.kept);
+            s.cids = g;
+            s
+        }
+        MTUD => {
+            let old = s.mtud;
+            let g = drive_mt::step(code, numbers, old.kept);
+            s.mtud = g;
+            s
+        }
+        _ => {
+            let old = s.streams;
+            let g = books(code, numbers, old.kept, memory);
+            s.streams = g;
+            s
+        }
     }
-    if kind == 9 {
-        let old = s.mtud;
-        let g = drive_mt::step(code, numbers, old.kept);
-        s.mtud = g;
-        return s;
-    }
-    let old = s.streams;
-    let g = books(code, numbers, old.kept, memory);
-    s.streams = g;
-    s
 }

@@ -1,126 +1,65 @@
--- One law for each return, and for each turn of a loop: its premises are the code's tests and what the calls before it promise. Assumes nothing.
+-- One law for each arm, and for what a read leaves: its premises are the tests of the code and what the calls before it promise. Assumes nothing.
 use mathlib.Core.Path.{◌≡◌, refl, sym, ap, ◌∙◌}
 use mathlib.Core.List.{List, ◌++◌}
-use mathlib.Core.Bool.{Bool, true, false, cond}
-use mathlib.Core.Logic.{inl, inr}
-use Prim.Native.Nat.{ℕ, suc, ◌+◌, ◌-◌, ◌≤◌, ◌<◌}
+use mathlib.Core.Bool.{Bool, true, false, cond, not}
+use mathlib.Core.Logic.{inl, inr, ⊎_elim}
+use Prim.Native.Nat.{ℕ, zero, suc, ◌+◌, ◌-◌, ◌≤◌, ◌<◌}
 use native.Mathlib.Omega.{arith}
-use native.Mathlib.Nat.{zero-add, add_comm, le_refl, le-add_right}
-use lib.ListN.{length, take, drop, get_or, set, length-drop}
-use lib.Seq.{get_or-append-add, get_or-drop, paste-suc, take_at, length-take-le}
+use native.Mathlib.Nat.{zero-add, add-zero, le_refl, le-add_right}
+use native.Mathlib.Numerals.{add-one}
+use lib.ListN.{length, take, drop, get_or, length-drop}
+use lib.Seq.{paste, take_at, drop-cons, length-take-le}
+use lib.Dec.{ltb}
 use borrow.Author.Tests.{lt-ltb, le-ltb, eq-eqb, ne_eqb}
+use Rattle.std.specs.Prelude.{◌==◌, position, slice_range, Option, Some, None}
+use Rattle.std.specs.List.{position_or_len}
+use Rattle.std.proofs.lemmas.List.Sums.{prefix_len-le-length}
+use Rattle.answers.proofs.Tests.{split}
 use Rattle.lines.specs.declared.Feed.{Feed}
-use Rattle.lines.specs.Lines.{Next, Read, begun, fitted, part, line_of, end_from, down, one_more, passed_of, found_of, long_of, none_of, last_of, kept, line_end, settles, settled}
+use Rattle.lines.specs.declared.Kind.TheVariants.{More, Failed}
+use Rattle.lines.specs.Lines.{Next, Read, fitted, part, line_of, end_from, found_of, long_of, none_of, last_of, kept, line_end, settles, settled}
 
 -- ---- the end of a line
 
-module _ (s : List ℕ) (i to : ℕ) where
-  pub end_here : i < to → get_or s i 0 ≡ 10 → i ≡ end_from (to - i) s i
-  unfolding end_from
-  end_here h e = let m : to - i ≡ suc (to - (i + 1)) = omega arith in rw (m, eq-eqb (get_or s i 0) 10 e)
+turn : (b : Bool) (i e n : ℕ) → e ≡ suc i + n → cond b i e ≡ i + cond (not b) (1 + n) 0
+turn true i e n h = sym (add-zero i)
+turn false i e n h = omega arith
 
-  pub end_on : i < to → (get_or s i 0 ≡ 10 → ⊥) → end_from (to - (i + 1)) s (i + 1) ≡ end_from (to - i) s i
-  unfolding end_from
-  end_on h e = let m : to - i ≡ suc (to - (i + 1)) = omega arith in rw (m, ne_eqb (get_or s i 0) 10 e)
+-- the first line end of k bytes, by its place among them
+end_at : (k : ℕ) (s : List ℕ) (i : ℕ) → i + k ≤ length s → end_from k s i ≡ i + position_or_len (λ b. b == 10) (take k (drop i s))
+unfolding end_from
+end_at zero s i h = sym (add-zero i)
+end_at (suc k) s i h = rw (add-one, drop-cons s i 0 (omega arith)) (turn (get_or s i 0 == 10) i _ _ (rw add-one at (end_at k s (i + 1) (omega arith))))
 
-  pub end_end : to ≤ i → i ≡ end_from (to - i) s i
-  unfolding end_from
-  end_end h = let m : to - i ≡ 0 = omega arith in rw m
+found_at : (l m n : ℕ) → ◌≡◌ {A = Option ℕ} (cond (ltb l m) (Some l) None) (Some n) → l ≡ n
+found_at l m n h =
+    ⊎_elim
+    (λ a. let e : ◌≡◌ {A = Option ℕ} (Some l) (Some n) = rw (lt-ltb l m a) at h in cc)
+    (λ a. let e : ◌≡◌ {A = Option ℕ} None (Some n) = rw (le-ltb l m a) at h in cc)
+    (split l m)
 
--- ---- bytes moved to the start
+none_at : (l m : ℕ) → ◌≡◌ {A = Option ℕ} (cond (ltb l m) (Some l) None) None → m ≤ l
+none_at l m h =
+    ⊎_elim
+    (λ a. let e : ◌≡◌ {A = Option ℕ} (Some l) None = rw (lt-ltb l m a) at h in cc)
+    (λ a. a)
+    (split l m)
 
-module _ (s : List ℕ) (from : ℕ) where
-  pub down_none : s ≡ down s from 0
-  unfolding down
-  down_none = refl
+module _ (s : List ℕ) (from to : ℕ) (h : from ≤ to) (k : to ≤ length s) where
+  pub end_some : (n : ℕ) → Some n ≡ position (λ b. b == 10) (slice_range s from to) → from + n ≡ end_from (to - from) s from
+  end_some n e =
+      let p : position_or_len (λ b. b == 10) (take (to - from) (drop from s)) ≡ n = found_at _ _ n (sym e) in
+      let q : end_from (to - from) s from ≡ from + position_or_len (λ b. b == 10) (take (to - from) (drop from s)) = end_at (to - from) s from (omega arith) in
+      omega arith
 
-  down_suc : (j : ℕ) → from + j < length s → set (down s from j) j (get_or (down s from j) (from + j) 0) ≡ down s from (suc j)
-  unfolding down
-  down_suc j h =
+  pub end_none : None ≡ position (λ b. b == 10) (slice_range s from to) → to ≡ end_from (to - from) s from
+  end_none e =
       let d = length-drop from s in
-      let n : length (take j (drop from s)) ≡ j = length-take-le j (drop from s) (omega arith) in
-      let a : get_or (take j (drop from s) ++ drop j s) (from + j) 0 ≡ get_or (drop from s) j 0 =
-      ap (λ k. get_or (take j (drop from s) ++ drop j s) k 0) (add_comm from j ∙ ap (λ k. k + from) (sym n))
-      ∙ get_or-append-add (take j (drop from s)) (drop j s) from 0 ∙ get_or-drop j s from 0 ∙ ap (λ k. get_or s k 0) (add_comm j from) ∙ sym (get_or-drop from s j 0) in
-      rw a (rw (zero-add, zero-add) at (paste-suc s 0 (drop from s) j 0 (omega arith) (omega arith)))
-
-  pub down_on : (i : ℕ) {t : List ℕ} → from ≤ i → i < length s → t ≡ down s from (i - from) → set t (i - from) (get_or t i 0) ≡ down s from (i + 1 - from)
-  down_on i h k e =
-      let a : i + 1 - from ≡ suc (i - from) = omega arith in
-      let b : from + (i - from) ≡ i = omega arith in
-      rw (e, a) (rw b at (down_suc (i - from) (omega arith)))
-
-  pub down_kept : (n : ℕ) → from + n ≤ length s → take n (down s from n) ≡ take n (drop from s)
-  unfolding down
-  down_kept n h = let d = length-drop from s in take_at (take n (drop from s)) (drop n s) n (length-take-le n (drop from s) (omega arith))
-
--- ---- feeds
-
-pub one_more_law : (n : ℕ) → n < 18446744073709551615 → n + 1 ≡ one_more n
-unfolding one_more
-one_more_law n h = rw (lt-ltb n 18446744073709551615 h)
-
-pub no_more : (n : ℕ) → 18446744073709551615 ≤ n → n ≡ one_more n
-unfolding one_more
-no_more n h = rw (le-ltb n 18446744073709551615 h)
-
-module _ (f : Feed) {r : Feed} where
-  pub fit_order : r ≡ begun → f.end < f.start → r ≡ fitted f
-  unfolding fitted
-  fit_order e a = rw (lt-ltb f.end f.start a) e
-
-  pub fit_within : r ≡ begun → f.start ≤ f.end → 65536 < f.end → r ≡ fitted f
-  unfolding fitted
-  fit_within e a b = rw (le-ltb f.end f.start a, lt-ltb 65536 f.end b) e
-
-  pub fit_rest : r ≡ begun → f.start ≤ f.end → f.end ≤ 65536 → f.to < f.from → r ≡ fitted f
-  unfolding fitted
-  fit_rest e a b c = rw (le-ltb f.end f.start a, le-ltb 65536 f.end b, lt-ltb f.to f.from c) e
-
-  pub fit_room : r ≡ begun → f.start ≤ f.end → f.end ≤ 65536 → f.from ≤ f.to → 65536 < f.to → r ≡ fitted f
-  unfolding fitted
-  fit_room e a b c d = rw (le-ltb f.end f.start a, le-ltb 65536 f.end b, le-ltb f.to f.from c, lt-ltb 65536 f.to d) e
-
-pub fit_all : (f : Feed) → f.start ≤ f.end → f.end ≤ 65536 → f.from ≤ f.to → f.to ≤ 65536 → f ≡ fitted f
-unfolding fitted
-fit_all f a b c d = rw (le-ltb f.end f.start a, le-ltb 65536 f.end b, le-ltb f.to f.from c, le-ltb 65536 f.to d)
-
-pub ruleset fits = (fit_order, fit_within, fit_rest, fit_room, fit_all)
-
-module _ (f : Feed) (end next : ℕ) where
-  pub found_skip : {r : Feed} → f.skipping ≡ true → r ≡ passed_of f 1 next f.number → r ≡ found_of f end next
-  unfolding found_of
-  found_skip e q = let g : passed_of f 1 next f.number ≡ found_of f end next = rw e in q ∙ g
-
-  pub found_long : {n : ℕ} {r : Feed} → f.skipping ≡ false → 65000 < end - f.from → n ≡ one_more f.number → r ≡ passed_of f 2 next n → r ≡ found_of f end next
-  unfolding found_of
-  found_long e h g q = rw (e, lt-ltb 65000 (end - f.from) h, ← g) q
-
-  pub found_line : {n : ℕ} → f.skipping ≡ false → end - f.from ≤ 65000 → n ≡ one_more f.number
-      → record { kind = 0; start = f.from; end = end; from = next; to = f.to; number = n; skipping = false; ended = f.ended } ≡ found_of f end next
-  unfolding found_of
-  found_line e h g = rw (e, le-ltb 65000 (end - f.from) h, g)
-
-pub long_on : (f : Feed) → f.skipping ≡ true
-    → record { kind = 1; start = 0; end = 0; from = 0; to = 0; number = f.number; skipping = true; ended = false } ≡ long_of f
-unfolding long_of
-long_on f e = rw e
-
-pub long_first : (f : Feed) {n : ℕ} → f.skipping ≡ false → n ≡ one_more f.number
-    → record { kind = 2; start = 0; end = 0; from = 0; to = 0; number = n; skipping = true; ended = false } ≡ long_of f
-unfolding long_of
-long_first f e g = rw (e, g)
-
-module _ (f : Feed) {r : Feed} where
-  pub last_none : f.from ≡ f.to → r ≡ none_of f 3 0 true → r ≡ last_of f
-  unfolding last_of
-  last_none h e = rw (eq-eqb f.from f.to h) e
-
-  pub last_line : (f.from ≡ f.to → ⊥) → r ≡ found_of f f.to f.to → r ≡ last_of f
-  unfolding last_of
-  last_line h e = rw (ne_eqb f.from f.to h) e
-
-pub ruleset feeds = (one_more_law, no_more, found_skip, found_long, found_line, long_on, long_first, last_none, last_line)
+      let l : length (take (to - from) (drop from s)) ≡ to - from = length-take-le (to - from) (drop from s) (omega arith) in
+      let p : length (take (to - from) (drop from s)) ≤ position_or_len (λ b. b == 10) (take (to - from) (drop from s)) = none_at _ _ (sym e) in
+      let m = prefix_len-le-length (λ b. not (b == 10)) (take (to - from) (drop from s)) in
+      let q : end_from (to - from) s from ≡ from + position_or_len (λ b. b == 10) (take (to - from) (drop from s)) = end_at (to - from) s from (omega arith) in
+      omega arith
 
 pub line_is : (f : Feed) (s : List ℕ) {g : Feed} {t : List ℕ} → g ≡ fitted f → t ≡ part s g.start g.end → t ≡ line_of f s
 unfolding line_of
@@ -128,68 +67,78 @@ line_is f s e h = rw (← e) h
 
 -- ---- a read
 
--- what stands before the part that is read into
-pub front : (a : ℕ) (s : List ℕ) → a ≤ length s → (t : List ℕ) → take a (take a s ++ t) ≡ take a s
-front a s h t = take_at (take a s) t a (length-take-le a s h)
+-- what was held stands at the start, also after a read behind it
+still : (s : List ℕ) (f : Feed) (t : List ℕ) {s₁ : List ℕ} → f.from ≤ f.to → f.to ≤ 65536 → length s ≡ 65536 → s₁ ≡ paste s 0 (drop f.from s) (f.to - f.from)
+    → take (kept f) (take (kept f) s₁ ++ t) ≡ part s f.from f.to
+still s f t o w k e =
+    let d = length-drop f.from s in
+    let n : length (take (kept f) (drop f.from s)) ≡ kept f = length-take-le (kept f) (drop f.from s) (omega arith) in
+    let m : paste s 0 (drop f.from s) (f.to - f.from) ≡ take (kept f) (drop f.from s) ++ drop (kept f) s = simp zero-add in
+    rw (e, m, take_at (take (kept f) (drop f.from s)) (drop (kept f) s) (kept f) n) (take_at (take (kept f) (drop f.from s)) t (kept f) n)
 
-still : (s : List ℕ) (f : Feed) (s₁ s' : List ℕ) → f.from ≤ f.to → f.to ≤ 65536 → length s ≡ 65536 → s₁ ≡ down s f.from (kept f) → take (kept f) s' ≡ take (kept f) s₁
-    → take (kept f) s' ≡ part s f.from f.to
-still s f s₁ s' o w k e g = g ∙ ap (take (kept f)) e ∙ down_kept s f.from (kept f) (omega arith)
+module _ (s : List ℕ) (f : Feed) (t : List ℕ) {s₁ : List ℕ} (o : f.from ≤ f.to) (w : f.to ≤ 65536) (k : length s ≡ 65536)
+    (e : s₁ ≡ paste s 0 (drop f.from s) (f.to - f.from)) where
+  pub read_failed : {r : Feed} → r ≡ none_of f Failed (f.to - f.from) true → Read s f (take (f.to - f.from) s₁ ++ t) r
+  read_failed q = rw q (record { kind = inr refl; rest = refl; more = le_refl _; held = still s f t o w k e; none = λ _. refl; fail = λ _. refl })
 
-module _ (s : List ℕ) (f : Feed) {s₁ s' : List ℕ} (o : f.from ≤ f.to) (w : f.to ≤ 65536) (k : length s ≡ 65536) (e : s₁ ≡ down s f.from (f.to - f.from))
-    (g : take (f.to - f.from) s' ≡ take (f.to - f.from) s₁) where
-  pub read_failed : {r : Feed} → r ≡ none_of f 4 (f.to - f.from) true → Read s f s' r
-  read_failed q = rw q (record { kind = inr refl; rest = refl; more = le_refl _; held = still s f s₁ s' o w k e g; none = λ _. refl; fail = λ _. refl })
+  pub read_none : {r : Feed} → r ≡ none_of f More (f.to - f.from) true → Read s f (take (f.to - f.from) s₁ ++ t) r
+  read_none q = rw q (record { kind = inl refl; rest = refl; more = le_refl _; held = still s f t o w k e; none = λ _. refl; fail = λ _. refl })
 
-  pub read_none : {r : Feed} → r ≡ none_of f 1 (f.to - f.from) true → Read s f s' r
-  read_none q = rw q (record { kind = inl refl; rest = refl; more = le_refl _; held = still s f s₁ s' o w k e g; none = λ _. refl; fail = λ _. refl })
-
-  pub read_some : (n : ℕ) {r : Feed} → (n ≡ 0 → ⊥) → r ≡ none_of f 1 (f.to - f.from + n) false → Read s f s' r
+  pub read_some : (n : ℕ) {r : Feed} → (n ≡ 0 → ⊥) → r ≡ none_of f More (f.to - f.from + n) false → Read s f (take (f.to - f.from) s₁ ++ t) r
   read_some n z q =
-      rw q (record { kind = inl refl; rest = refl; more = le-add_right _ n; held = still s f s₁ s' o w k e g; none = λ h. absurd (z (omega arith)); fail = λ h. absurd (omega arith) })
+      rw q (record { kind = inl refl; rest = refl; more = le-add_right _ n; held = still s f t o w k e; none = λ h. absurd (z (omega arith)); fail = λ h. cc })
+
+pub ruleset reads = (read_failed, read_none, read_some)
 
 -- ---- the next line
 
 settled_next : (s : List ℕ) (f r : Feed) → settles s f ≡ true → r ≡ settled s f → Next s f s r
 settled_next s f r e g = record { feed = λ _. g; same = λ _. refl; read = λ h. absurd (let z : ◌≡◌ {A = Bool} true false = sym e ∙ h in let y : ◌≡◌ {A = ℕ} 0 1 = cc in omega arith) }
 
-unsettled : (s : List ℕ) (f : Feed) {e : ℕ} → e ≡ line_end s f → f.to ≤ e → f.ended ≡ false → (kept f ≡ 65536 → ⊥) → settles s f ≡ false
-unfolding settles
-unsettled s f {e} g h d k = rw (← g, le-ltb e f.to h, d, ne_eqb (kept f) 65536 k)
+-- with no line end in what is held, an input that goes on and room behind it
+module _ (s : List ℕ) (f : Feed) (g : f.to ≡ line_end s f) (d : f.ended ≡ false) (k : kept f ≡ 65536 → ⊥) where
+  unsettled : settles s f ≡ false
+  unfolding settles
+  unsettled = rw (← g, le-ltb f.to f.to (le_refl f.to), d, ne_eqb (kept f) 65536 k)
 
-never_settles : (s : List ℕ) (f : Feed) {e : ℕ} → e ≡ line_end s f → f.to ≤ e → f.ended ≡ false → (kept f ≡ 65536 → ⊥) → settles s f ≡ true → ⊥
-never_settles s f g h d k w = let z : ◌≡◌ {A = Bool} true false = sym w ∙ unsettled s f g h d k in let y : ◌≡◌ {A = ℕ} 0 1 = cc in omega arith
+  never_settles : settles s f ≡ true → ⊥
+  never_settles w = let z : ◌≡◌ {A = Bool} true false = sym w ∙ unsettled in cc
 
--- where a source is read, what is held does not say what comes next
-pub unread : (s : List ℕ) (f : Feed) {e : ℕ} → e ≡ line_end s f → f.to ≤ e → f.ended ≡ false → (kept f ≡ 65536 → ⊥) → {R : Type 0} {x y : R} → settles s f ≡ true → x ≡ y
-unread s f g h d k w = absurd (never_settles s f g h d k w)
+  -- where a source is read, what is held does not say what comes next
+  pub unread : {R : Type 0} {x y : R} → settles s f ≡ true → x ≡ y
+  unread w = absurd (never_settles w)
 
-pub unread_fitted : (s : List ℕ) (f : Feed) {g : Feed} {R : Type 0} {x y : R} → g ≡ fitted f → (settles s g ≡ true → x ≡ y) → settles s (fitted f) ≡ true → x ≡ y
-unread_fitted s f {x = x} {y = y} e q = rw (← e) q
+  pub next_read : {r : Feed} {s' : List ℕ} → Read s f s' r → Next s f s' r
+  next_read q = record { feed = λ w. absurd (never_settles w); same = λ w. absurd (never_settles w); read = λ _. q }
 
-module _ (s : List ℕ) (f : Feed) {r : Feed} {e : ℕ} (g : e ≡ line_end s f) where
-  pub next_found : e < f.to → r ≡ found_of f e (e + 1) → Next s f s r
+module _ (s : List ℕ) (f : Feed) {r : Feed} where
+  at_end : {e : ℕ} → e ≡ line_end s f → e < f.to → r ≡ found_of f e (e + 1) → Next s f s r
   unfolding settles settled
-  next_found h q =
+  at_end {e} g h q =
       let t = lt-ltb e f.to h in
       settled_next s f r (rw (← g, t)) (rw (← g, t) q)
 
-  pub next_last : f.to ≤ e → f.ended ≡ true → r ≡ last_of f → Next s f s r
+  pub next_found : (n : ℕ) → f.from ≤ f.to → f.to ≤ length s → Some n ≡ position (λ b. b == 10) (slice_range s f.from f.to) → n < f.to - f.from
+      → r ≡ found_of f (f.from + n) (f.from + n + 1) → Next s f s r
+  next_found n o k e h q = at_end (end_some s f.from f.to o k n e) (omega arith) q
+
+  pub next_last : f.to ≡ line_end s f → f.ended ≡ true → r ≡ last_of f → Next s f s r
   unfolding settles settled
-  next_last h d q =
-      let t = le-ltb e f.to h in
+  next_last g d q =
+      let t = le-ltb f.to f.to (le_refl f.to) in
       settled_next s f r (rw (← g, t, d)) (rw (← g, t) (q ∙ ap (λ b. cond b (last_of f) (long_of f)) (sym d)))
 
-  pub next_long : f.to ≤ e → f.ended ≡ false → kept f ≡ 65536 → r ≡ long_of f → Next s f s r
+  pub next_long : f.to ≡ line_end s f → f.ended ≡ false → kept f ≡ 65536 → r ≡ long_of f → Next s f s r
   unfolding settles settled
-  next_long h d k q =
-      let t = le-ltb e f.to h in
+  next_long g d k q =
+      let t = le-ltb f.to f.to (le_refl f.to) in
       settled_next s f r (rw (← g, t, d, eq-eqb (kept f) 65536 k)) (rw (← g, t) (q ∙ ap (λ b. cond b (last_of f) (long_of f)) (sym d)))
 
-  pub next_read : {s' : List ℕ} → f.to ≤ e → f.ended ≡ false → (kept f ≡ 65536 → ⊥) → Read s f s' r → Next s f s' r
-  next_read h d k q =
-      let never : settles s f ≡ true → ⊥ = never_settles s f g h d k in
-      record { feed = λ w. absurd (never w); same = λ w. absurd (never w); read = λ _. q }
+module _ (s : List ℕ) (f : Feed) {g : Feed} (e : g ≡ fitted f) where
+  pub next_fitted : {r : Feed} {s' : List ℕ} → Next s g s' r → Next s (fitted f) s' r
+  next_fitted q = rw (← e) q
 
-pub next_fitted : (s : List ℕ) (f : Feed) {g r : Feed} {s' : List ℕ} → g ≡ fitted f → Next s g s' r → Next s (fitted f) s' r
-next_fitted s f e q = rw (← e) q
+  pub unread_fitted : {R : Type 0} {x y : R} → (settles s g ≡ true → x ≡ y) → settles s (fitted f) ≡ true → x ≡ y
+  unread_fitted {x = x} {y = y} q = rw (← e) q
+
+pub ruleset nexts = (end_none, next_found, next_last, next_long, next_read)

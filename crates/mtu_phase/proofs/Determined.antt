@@ -1,5 +1,5 @@
 -- Each public promise fixes its outcome, and asks nothing: it is an equation of the result.
-use mathlib.Core.Path.{◌≡◌, refl, sym, ◌∙◌}
+use mathlib.Core.Path.{refl, sym, ◌∙◌}
 use Rattle.answers.proofs.Promise.{Whole}
 use Rattle.mtu_phase.proofs.is_size as is_size
 use Rattle.mtu_phase.proofs.is_packet as is_packet

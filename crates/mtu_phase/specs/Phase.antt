@@ -1,13 +1,10 @@
 -- The phases of the search and its settings, and the limits of what a call is given (01, Limits; mtud.rs, Phase).
 -- Assumes nothing.
-use Rattle.std.specs.Prelude.{ℕ, ◌^◌, Bool, true, false, cond, ◌&&◌, ltb, leb}
-use Rattle.answers.specs.Answers.{OK}
-use Rattle.mtu_search.specs.declared.SearchState.{SearchState}
+use Rattle.std.specs.Prelude.{ℕ, ◌^◌, Bool, true, false, cond, ◌&&◌, ltb, leb, Option, None, Some}
 use Rattle.mtu_search.specs.Search as search
 use Rattle.mtu_phase.specs.declared.Phase.{Phase}
 use Rattle.mtu_phase.specs.declared.Phase.TheVariants.{Off, Initial, Searching, Complete}
 use Rattle.mtu_phase.specs.declared.MtuDiscoveryConfig.{MtuDiscoveryConfig}
-use Rattle.mtu_phase.specs.declared.InFlight.{InFlight}
 
 -- ---- limits (01, Limits): a size as a setting; the number and the size of a packet
 unfoldable pub size_b : ℕ → Bool
@@ -49,11 +46,9 @@ off_b Initial = false
 off_b (Searching s) = false
 off_b (Complete until) = false
 
-abbrev pub none_flying : ℕ → InFlight
-none_flying a = record { answer = a; flying = false; number = 0 }
-
-unfoldable pub flying_of : Phase → InFlight
-flying_of Off = none_flying OK
-flying_of Initial = none_flying OK
-flying_of (Searching s) = cond s.flying (record { answer = OK; flying = true; number = s.probe }) (none_flying OK)
-flying_of (Complete until) = none_flying OK
+-- the packet number of the probe in flight, if there is one
+unfoldable pub flying_of : Phase → Option ℕ
+flying_of Off = None
+flying_of Initial = None
+flying_of (Searching s) = cond s.flying (Some s.probe) None
+flying_of (Complete until) = None

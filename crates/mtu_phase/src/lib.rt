@@ -5,7 +5,6 @@
 ghost use Rattle.std.specs.Prelude.{◌≡◌, ℕ, ◌<◌, ◌≤◌};
 ghost use Rattle.mtu_phase.specs.Phase.{size_b, packet_b, no_config, good_config, good_phase, restarted, searching_b, off_b, flying_of};
 
-use answers::OK;
 use mtu_search::SearchState;
 
 // One past the packet numbers.
@@ -39,15 +38,8 @@ pub struct MtuDiscoveryConfig {
     pub cooldown: u64,
 }
 
-// Whether a probe is in flight, and its packet number.
-#[derive(Clone, Copy)]
-pub struct InFlight {
-    pub answer: u8,
-    pub flying: bool,
-    pub number: u64,
-}
-
 // Whether x is a size that a setting may have.
+#[tactic(auto, unfolding(crate::specs::Phase::size_b))]
 pub fn is_size(x: u16) -> bool
     ensures { result ≡ size_b x }
 {
@@ -55,6 +47,7 @@ pub fn is_size(x: u16) -> bool
 }
 
 // Whether a packet may have that number and size.
+#[tactic(auto, unfolding(crate::specs::Phase::packet_b))]
 pub fn is_packet(number: u64, size: u16) -> bool
     ensures { result ≡ packet_b number size }
 {
@@ -63,6 +56,7 @@ pub fn is_packet(number: u64, size: u16) -> bool
 
 impl MtuDiscoveryConfig {
     // Whether the settings are within their limits.
+    #[tactic(auto, unfolding(crate::specs::Phase::good_config))]
     pub fn good(self) -> bool
         ensures { result ≡ good_config self }
     {
@@ -84,78 +78,53 @@ impl MtuDiscoveryConfig {
 
 impl Phase {
     // Whether the phase is well formed under the settings, the MTU and the peer's maximum.
+    #[tactic(auto, unfolding(crate::specs::Phase::good_phase))]
     pub fn good(self, config: MtuDiscoveryConfig, current: u16, peer: u16) -> bool
         ensures { result ≡ good_phase self config current peer }
     {
         match self {
             Phase::Off => true,
-            Phase::Initial => config.good(),
             Phase::Searching(s) => config.good()
                 & ((s.upper <= config.upper) & s.good(current, peer)),
-            Phase::Complete(_) => config.good(),
+            Phase::Initial | Phase::Complete(_) => config.good(),
         }
     }
 
     // A search that has begun is as one that has not; one that is off stays off.
+    #[tactic(auto, unfolding(crate::specs::Phase::restarted))]
     pub fn restart(self) -> Phase
         ensures { result ≡ restarted self }
     {
         match self {
             Phase::Off => Phase::Off,
-            Phase::Initial => Phase::Initial,
-            Phase::Searching(_) => Phase::Initial,
-            Phase::Complete(_) => Phase::Initial,
+            _ => Phase::Initial,
         }
     }
 
     // Whether a search runs.
+    #[tactic(auto, unfolding(crate::specs::Phase::searching_b))]
     pub fn searching(self) -> bool
         ensures { result ≡ searching_b self }
     {
-        match self {
-            Phase::Off => false,
-            Phase::Initial => false,
-            Phase::Searching(_) => true,
-            Phase::Complete(_) => false, // at rest
-        }
+        matches!(self, Phase::Searching(_))
     }
 
     // The packet number of the probe in flight, if there is one.
-    pub fn flying(self) -> InFlight
+    #[tactic(auto, unfolding(crate::specs::Phase::flying_of))]
+    pub fn flying(self) -> Option<u64>
         ensures { result ≡ flying_of self }
     {
-        let none = InFlight {
-            answer: OK,
-            flying: false,
-            number: 0,
-        };
         match self {
-            Phase::Off => none,
-            Phase::Initial => none,
-            Phase::Searching(s) => {
-                if s.flying {
-                    InFlight {
-                        answer: OK,
-                        flying: true,
-                        number: s.probe,
-                    }
-                } else {
-                    none
-                }
-            }
-            Phase::Complete(_) => none,
+            Phase::Searching(s) if s.flying => Some(s.probe),
+            _ => None,
         }
     }
 
     // Whether the search is switched off.
+    #[tactic(auto, unfolding(crate::specs::Phase::off_b))]
     pub fn off(self) -> bool
         ensures { result ≡ off_b self }
     {
-        match self {
-            Phase::Off => true,
-            Phase::Initial => false, // not begun
-            Phase::Searching(_) => false,
-            Phase::Complete(_) => false,
-        }
+        matches!(self, Phase::Off)
     }
 }

@@ -1,5 +1,5 @@
 -- Each public promise fixes its outcome, and asks nothing: it is an equation of the result.
-use mathlib.Core.Path.{◌≡◌, refl, sym, ◌∙◌}
+use mathlib.Core.Path.{refl, sym, ◌∙◌}
 use Rattle.answers.proofs.Promise.{Whole}
 use Rattle.mtu_search.proofs.SearchState.new as new
 use Rattle.mtu_search.proofs.SearchState.good as good

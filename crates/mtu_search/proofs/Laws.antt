@@ -1,29 +1,19 @@
--- The search's definitions, case by case: a law for each return of the code, whose premises are the code's tests and what its callees ensure.
+-- The search's definitions, case by case.
 -- Assumes nothing.
-use mathlib.Core.Path.{◌≡◌, refl, ap, sym, ◌∙◌}
-use mathlib.Core.Bool.{Bool, true, false, cond, ◌&&◌, ◌||◌, not}
-use Prim.Native.Nat.{ℕ, ◌+◌, ◌-◌, ◌/◌, ◌^◌, ◌≤◌, ◌<◌, min, max}
-use native.Mathlib.Omega.{arith}
-use lib.Dec.{eqb, ltb, leb}
+use mathlib.Core.Path.{◌≡◌, refl}
+use mathlib.Core.Bool.{Bool, true, false, cond}
+use Prim.Native.Nat.{ℕ, ◌-◌, ◌≤◌, ◌<◌}
+use lib.Dec.{eqb, ltb}
 use borrow.Author.Tests.{ltb-true, ltb-false, eqb-true, eqb-false, lt-ltb, le-ltb, le-leb, lt-leb, eq-eqb, ne_eqb}
 use Rattle.mtu_search.specs.declared.SearchState.{SearchState}
 use Rattle.mtu_search.specs.declared.Turn.{Turn}
 use Rattle.mtu_search.specs.declared.Turn.TheVariants.{Waiting, Probing, Over}
-use Rattle.mtu_search.specs.Search.{begun, half, distance, chosen, sent, onward, turn, acked, missed, known, good}
-
-pub begun_is : (current peer top : ℕ) {l u m : ℕ} → l ≡ min current peer → m ≡ min top peer → u ≡ max l m
-    → ◌≡◌ {A = SearchState} (record { lower = l; upper = u; last = l; flying = false; probe = 0; lost = 0 }) (begun current peer top)
-unfolding begun
-begun_is current peer top e f g = rw (g, f, e)
+use Rattle.mtu_search.specs.Search.{half, distance, chosen, sent, onward, turn, known}
 
 module _ (lower upper last change : ℕ) where
   pub chosen_half : change ≤ distance (half lower upper) last → lower < half lower upper → chosen lower upper last change ≡ half lower upper
   unfolding chosen
   chosen_half h l = rw (le-leb change (distance (half lower upper) last) h, lt-ltb lower (half lower upper) l)
-
-  pub chosen_known : change ≤ distance (half lower upper) last → half lower upper ≤ lower → chosen lower upper last change ≡ 0
-  unfolding chosen
-  chosen_known h l = rw (le-leb change (distance (half lower upper) last) h, le-ltb lower (half lower upper) l)
 
   pub chosen_upper : distance (half lower upper) last < change → change ≤ upper - last → chosen lower upper last change ≡ upper
   unfolding chosen
@@ -54,27 +44,7 @@ module _ (s : SearchState) where
   unfolding known
   known_lost e z = rw (e, ne_eqb s.lost 0 z)
 
-  pub good_is : (current peer : ℕ) {k : ℕ} → k ≡ known s
-      → ((leb 1200 s.lower && (ltb s.lower s.last && (leb s.last s.upper && leb s.upper peer)))
-      && ((leb s.lost 3 && (ltb s.lost 3 || not s.flying)) && (ltb s.probe (2 ^ 62) && eqb current k)))
-      ≡ good s current peer
-  unfolding good
-  good_is current peer e = rw e
-
-  pub acked_is : ◌≡◌ {A = SearchState} (record { lower = s.lower; upper = s.upper; last = s.last; flying = false; probe = 0; lost = 0 }) (acked s)
-  unfolding acked
-  acked_is = refl
-
-  pub missed_is : {k : ℕ} → k ≡ min s.lost 2
-      → ◌≡◌ {A = SearchState} (record { lower = s.lower; upper = s.upper; last = s.last; flying = false; probe = 0; lost = k + 1 }) (missed s)
-  unfolding missed
-  missed_is e = rw e
-
   module _ (change n : ℕ) where
-    pub turn_waiting : s.flying ≡ true → Waiting ≡ turn s change n
-    unfolding turn
-    turn_waiting e = rw e
-
     pub turn_won : {r : Turn} → s.flying ≡ false → s.lost ≡ 0 → r ≡ onward s.last s.upper s.last change n → r ≡ turn s change n
     unfolding turn
     turn_won e z er = rw (e, eq-eqb s.lost 0 z) er
@@ -114,5 +84,3 @@ turn_by P s change n waits won again lost = by s.flying (eqb s.lost 0) (ltb s.lo
     by false true c e f g = won e (eqb-true _ _ f)
     by false false true e f g = again e (eqb-false _ _ f) (ltb-true _ _ g)
     by false false false e f g = lost e (eqb-false _ _ f) (ltb-false _ _ g)
-
-pub ruleset laws = (begun_is, onward_over, onward_sent, known_flying, known_acked, known_lost, good_is, acked_is, missed_is, turn_waiting, turn_won, turn_again, turn_lost)

@@ -2,7 +2,7 @@
 -- It halves the distance between a size that is known to pass and a bound above which nothing is tried. A size that is acknowledged becomes the lower
 -- bound, one that is lost three times the upper bound less one; both when the next size is chosen, so between the two the state says what is to come.
 -- One rule is not the Rust's: no size is probed that is known to pass, which with a minimum change of 1 or 2 the Rust does. Assumes nothing.
-use Rattle.std.specs.Prelude.{ℕ, ◌+◌, ◌-◌, ◌/◌, ◌^◌, min, max, Bool, true, false, cond, ◌&&◌, ◌||◌, not, eqb, ltb, leb}
+use Rattle.std.specs.Prelude.{ℕ, ◌+◌, ◌-◌, ◌/◌, ◌^◌, min, max, Bool, true, false, cond, ◌&&◌, ◌||◌, not, eqb, ltb, leb, Option, None, Some}
 use Rattle.mtu_search.specs.declared.SearchState.{SearchState}
 use Rattle.mtu_search.specs.declared.Turn.{Turn}
 use Rattle.mtu_search.specs.declared.Turn.TheVariants.{Waiting, Probing, Over}
@@ -33,6 +33,10 @@ chosen lower upper last change =
     cond (leb change (distance (half lower upper) last))
     (cond (ltb lower (half lower upper)) (half lower upper) 0)
     (cond (leb change (upper - last)) upper 0)
+
+-- the same as a size, if there is one
+abbrev pub some_size : ℕ → Option ℕ
+some_size z = cond (eqb z 0) None (Some z)
 
 -- a probe of size x goes out as packet n, after that many losses of the same size
 abbrev pub sent : ℕ → ℕ → ℕ → ℕ → ℕ → SearchState

@@ -4,7 +4,7 @@
 
 ghost use Rattle.std.specs.Prelude.{◌≡◌};
 ghost use Prim.Native.Nat.{ℕ, ◌<◌, ◌≤◌, ◌+◌, ◌-◌};
-ghost use Rattle.mtu_search.specs.Search.{begun, known, good, chosen, onward, turn, acked, missed};
+ghost use Rattle.mtu_search.specs.Search.{begun, known, good, some_size, chosen, onward, turn, acked, missed};
 
 // One past the packet numbers.
 const LIMIT: u64 = 1 << 62;
@@ -23,7 +23,7 @@ pub struct SearchState {
     pub upper: u16,
     // The size probed last.
     pub last: u16,
-    // Is a probe in flight, and under which packet number?
+    // Is a probe in flight, and under which packet number? A flag beside it, and no Option: SearchState::good answers for the number where there is none.
     pub flying: bool,
     pub probe: u64,
     // Probes of the size `last` that were lost.
@@ -38,88 +38,50 @@ pub enum Turn {
     Over,
 }
 
-fn least(a: u16, b: u16) -> u16
-    ensures { result ≡ Prim.Native.Nat.min a b }
-{
-    if a < b { a } else { b }
-}
-
-fn fewer(a: u8, b: u8) -> u8
-    ensures { result ≡ Prim.Native.Nat.min a b }
-{
-    if a < b { a } else { b }
-}
-
-fn most(a: u16, b: u16) -> u16
-    ensures { result ≡ Prim.Native.Nat.max a b }
-{
-    if a < b { b } else { a }
-}
-
-fn wide(x: u16) -> u64
-    ensures { result ≡ x }
-{
-    x as u64
-}
-
-// The difference, or 0.
-fn less(a: u16, b: u16) -> u16
-    ensures { result ≡ a - b }
-{
-    if a < b { 0 } else { a - b }
-}
-
-fn apart(a: u16, b: u16) -> u16
-    ensures { result ≡ (a - b) + (b - a) }
-{
-    if a < b { b - a } else { a - b }
-}
-
-// The size to probe next, 0 for none: half way between the bounds; where that is too near the last size, the upper bound, if that is far enough.
+// The size to probe next, if any: half way between the bounds; where that is too near the last size, the upper bound, if that is far enough.
 // Never a size that is known to pass.
-fn choose(lower: u16, upper: u16, last: u16, change: u16) -> u16
-    ensures { result ≡ chosen lower upper last change }
+#[tactic(auto, unfolding(crate::specs::Search::chosen))]
+fn choose(lower: u16, upper: u16, last: u16, change: u16) -> Option<u16>
+    ensures { result ≡ some_size (chosen lower upper last change) }
 {
-    let next = ((wide(lower) + wide(upper)) / 2) as u16;
-    if change <= apart(next, last) {
-        if lower < next { next } else { 0 }
+    let next = lower.midpoint(upper);
+    if change <= next.abs_diff(last) {
+        if lower < next { Some(next) } else { None }
+    } else if change <= upper.saturating_sub(last) {
+        Some(upper)
     } else {
-        if change <= less(upper, last) {
-            upper
-        } else {
-            0
-        }
+        None
     }
 }
 
 // The next size goes out as packet `number`, or the search is over.
+#[tactic(auto, unfolding(crate::specs::Search::onward))]
 fn go_on(lower: u16, upper: u16, last: u16, change: u16, number: u64) -> Turn
     ensures { result ≡ onward lower upper last change number }
 {
-    let size = choose(lower, upper, last, change);
-    if size == 0 {
-        return Turn::Over;
+    match choose(lower, upper, last, change) {
+        None => Turn::Over,
+        Some(size) => Turn::Probing(SearchState {
+            lower,
+            upper,
+            last: size,
+            flying: true,
+            probe: number,
+            lost: 0,
+        }),
     }
-    Turn::Probing(SearchState {
-        lower,
-        upper,
-        last: size,
-        flying: true,
-        probe: number,
-        lost: 0,
-    })
 }
 
 impl SearchState {
     // A search from the known size `current` up to `top`, both capped by the peer's maximum; the known size counts as probed.
+    #[tactic(auto, unfolding(crate::specs::Search::begun))]
     pub fn new(current: u16, peer: u16, top: u16) -> SearchState
         ensures { result ≡ begun current peer top }
     {
-        let lower = least(current, peer);
-        let upper = most(lower, least(top, peer));
+        let lower = current.min(peer);
         SearchState {
             lower,
-            upper,
+            upper: lower.max(top.min(peer)),
             last: lower,
             flying: false,
             probe: 0,
@@ -128,6 +90,7 @@ impl SearchState {
     }
 
     // The size that is known to pass.
+    #[tactic(auto, unfolding(crate::specs::Search::known))]
     fn known(self) -> u16
         ensures { result ≡ known self }
     {
@@ -142,6 +105,7 @@ impl SearchState {
 
     // Whether the search is well formed under the MTU `current` and the peer's maximum: `true` exactly if the size last probed lies above the lower
     // bound and not above the upper, that not above the peer's maximum, the size that is known to pass is the MTU, and the tries are within three.
+    #[tactic(auto, unfolding(crate::specs::Search::good))]
     pub fn good(self, current: u16, peer: u16) -> bool
         ensures { result ≡ good self current peer }
     {
@@ -153,6 +117,7 @@ impl SearchState {
     }
 
     // One turn: nothing while a probe is in flight; a lost size again, up to three times; else the next size, or the end.
+    #[tactic(auto, unfolding(crate::specs::Search::turn))]
     pub fn poll(self, change: u16, number: u64) -> Turn
         ensures { result ≡ turn self change number }
     {
@@ -164,42 +129,43 @@ impl SearchState {
         }
         if self.lost < MAX_PROBE_RETRANSMITS {
             return Turn::Probing(SearchState {
-                lower: self.lower,
-                upper: self.upper,
-                last: self.last,
                 flying: true,
                 probe: number,
-                lost: self.lost,
+                ..self
             });
         }
-        go_on(self.lower, less(self.last, 1), self.last, change, number)
+        go_on(
+            self.lower,
+            self.last.saturating_sub(1),
+            self.last,
+            change,
+            number,
+        )
     }
 
     // The probe in flight was acknowledged.
+    #[tactic(auto, unfolding(crate::specs::Search::acked))]
     pub fn on_acked(self) -> SearchState
         ensures { result ≡ acked self }
     {
         SearchState {
-            lower: self.lower,
-            upper: self.upper,
-            last: self.last,
             flying: false, // it has come
             probe: 0,
             lost: 0, // those were of the size that came
+            ..self
         }
     }
 
     // The probe in flight was lost: one loss more, counted up to three.
+    #[tactic(auto, unfolding(crate::specs::Search::missed))]
     pub fn on_lost(self) -> SearchState
         ensures { result ≡ missed self }
     {
         SearchState {
-            lower: self.lower,
-            upper: self.upper,
-            last: self.last,
             flying: false,
             probe: 0,
-            lost: fewer(self.lost, 2) + 1,
+            lost: self.lost.saturating_add(1).min(MAX_PROBE_RETRANSMITS),
+            ..self
         }
     }
 }

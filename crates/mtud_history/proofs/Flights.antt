@@ -1,8 +1,10 @@
 -- What a call leaves of the probe in flight: a poll that asks for a probe leaves that one in flight, under the number it was given; once that number is
 -- acknowledged, or the probe is lost, none is. By the cases of the definitions. Assumes nothing.
-use mathlib.Core.Path.{◌≡◌, refl, ap, ◌∙◌}
+use mathlib.Core.Path.{◌≡◌, refl, ap, sym, ◌∙◌}
 use mathlib.Core.Bool.{true, false}
 use Prim.Native.Nat.{ℕ, ◌-◌, ◌^◌, ◌≤◌, ◌<◌}
+use Rattle.std.specs.Prelude.{Some, Result, Ok}
+use Rattle.answers.specs.declared.Refusal.{Refusal}
 use borrow.Author.Tests.{lt-ltb, le-leb, eq-eqb}
 use Rattle.mtu_search.specs.declared.SearchState.{SearchState}
 use Rattle.mtu_search.specs.declared.Turn.{Turn}
@@ -14,9 +16,11 @@ use Rattle.mtu_phase.specs.declared.Phase.{Phase}
 use Rattle.mtu_phase.specs.declared.Phase.TheVariants.{Off, Initial, Searching, Complete}
 use Rattle.mtu_phase.specs.Phase.{packet_b}
 use Rattle.mtud.specs.declared.MtuDiscovery.{MtuDiscovery}
-use Rattle.mtud.specs.declared.Done.{Done}
-use Rattle.mtud.specs.Discovery.{good, at, done, begun_in, turned, by_phase, polled, is_probe, probe_delivered, by_acked, acked, by_lost, probe_lost}
-use Rattle.mtud_history.proofs.Cases.{polled_by, complete_by}
+use Rattle.mtud.specs.declared.Polled.{Polled}
+use Rattle.mtud.specs.declared.Acked.{Acked}
+use Rattle.mtud.specs.Discovery.{good, at, begun_in, turned, by_phase, polled, is_probe, probe_delivered, by_acked, acked, by_lost, probe_lost}
+use Rattle.mtud_history.specs.Left.{left, left_polled, left_acked, probe_of}
+use Rattle.mtud_history.proofs.Cases.{same_some, never_some, polled_by, complete_by}
 use Rattle.mtud_history.proofs.Searches.{over_none}
 
 -- a turn's probe has the number that it was given, and is in flight
@@ -43,25 +47,28 @@ pub record Sent (m : MtuDiscovery) (n x : ℕ) : Type 0 where
   pub number : state.probe ≡ n
   pub size : state.last ≡ x
 
-module _ (m : MtuDiscovery) (now n : ℕ) where
-  turned_sent : (u : Turn) → TurnFlies u n → ((turned u m now).value ≡ 0 → ⊥) → Sent (turned u m now).mtud n (turned u m now).value
-  unfolding turned TurnFlies
-  turned_sent Waiting f d = absurd (d refl)
-  turned_sent (Probing t) f d = record { state = t; at = refl; flying = f.0; number = f.1; size = refl }
-  turned_sent Over f d = absurd (d (over_none m now))
+module _ (m : MtuDiscovery) (now n x : ℕ) where
+  abbrev Leaves : Result Polled Refusal → Type 0
+  Leaves r = probe_of r ≡ Some x → Sent (left_polled m r) n x
 
-  phase_sent : (q : Phase) → ((by_phase q m now n).value ≡ 0 → ⊥) → Sent (by_phase q m now n).mtud n (by_phase q m now n).value
+  turned_sent : (u : Turn) → TurnFlies u n → Leaves (turned u m now)
+  unfolding turned TurnFlies
+  turned_sent Waiting f d = never_some d
+  turned_sent (Probing t) f d = record { state = t; at = refl; flying = f.0; number = f.1; size = same_some d }
+  turned_sent Over f d = never_some (sym (over_none m now) ∙ d)
+
+  phase_sent : (q : Phase) → Leaves (by_phase q m now n)
   unfolding by_phase
-  phase_sent Off d = absurd (d refl)
+  phase_sent Off d = never_some d
   phase_sent Initial d = turned_sent (search.turn (begun_in m) m.config.change n) (turn_flies (begun_in m) m.config.change n) d
   phase_sent (Searching s) d = turned_sent (search.turn s m.config.change n) (turn_flies s m.config.change n) d
   phase_sent (Complete until) d =
-      complete_by (λ (r : Done). (r.value ≡ 0 → ⊥) → Sent r.mtud n r.value) m until now n (λ e z. absurd (z refl))
+      complete_by Leaves m until now n (λ e z. never_some z)
       (λ e. turned_sent (search.turn (begun_in m) m.config.change n) (turn_flies (begun_in m) m.config.change n)) d
 
   -- a poll that asks for a probe
-  pub polled_sent : ((polled m now n).value ≡ 0 → ⊥) → Sent (polled m now n).mtud n (polled m now n).value
-  polled_sent = polled_by (λ (r : Done). (r.value ≡ 0 → ⊥) → Sent r.mtud n r.value) m now n (λ hn. phase_sent m.phase) (λ d. absurd (d refl))
+  pub polled_sent : Leaves (polled m now n)
+  polled_sent = polled_by Leaves m now n (λ hn. phase_sent m.phase) (λ d. never_some d)
 
 -- a search with none in flight
 pub record Idle (m : MtuDiscovery) : Type 0 where
@@ -69,25 +76,29 @@ pub record Idle (m : MtuDiscovery) : Type 0 where
   pub at : m.phase ≡ Searching state
   pub idle : state.flying ≡ false
 
+abbrev ok : Acked → Result Acked Refusal
+ok a = Ok a
+
 module _ (m : MtuDiscovery) (n x : ℕ) (k : Sent m n x) (g : good m ≡ true) where
   is_probe_law : is_probe k.state n ≡ true
   unfolding is_probe
   is_probe_law = both k.flying (eq-eqb k.state.probe n k.number)
 
-  pub acked_is : (y : ℕ) → n < 2 ^ 62 → y ≤ 65527 → acked m n y ≡ probe_delivered m k.state n y
+  pub acked_is : (y : ℕ) → n < 2 ^ 62 → y ≤ 65527 → acked m n y ≡ Ok (probe_delivered m k.state n y)
   unfolding acked by_acked packet_b
-  acked_is y hn hy = rw (g, lt-ltb n (2 ^ 62) hn, le-leb y 65527 hy) (ap (λ (q : Phase). by_acked q m n y) k.at ∙ rw is_probe_law)
+  acked_is y hn hy =
+      rw (g, lt-ltb n (2 ^ 62) hn, le-leb y 65527 hy)
+      (ap ok (ap (λ (q : Phase). by_acked q m n y) k.at ∙ rw is_probe_law))
 
-  pub acked_idle : (y : ℕ) → n < 2 ^ 62 → y ≤ 65527 → Idle (acked m n y).mtud
+  pub acked_idle : (y : ℕ) → n < 2 ^ 62 → y ≤ 65527 → Idle (left_acked m (acked m n y))
   unfolding search.acked
   acked_idle y hn hy =
-      let e = acked_is y hn hy in
-      record { state = search.acked k.state; at = ap (λ (r : Done). r.mtud.phase) e; idle = refl }
+      record { state = search.acked k.state; at = ap (λ (r : Result Acked Refusal). (left_acked m r).phase) (acked_is y hn hy); idle = refl }
 
-  pub lost_is : probe_lost m ≡ done (at m (Searching (search.missed k.state))) 0
+  pub lost_is : probe_lost m ≡ Ok (at m (Searching (search.missed k.state)))
   unfolding probe_lost by_lost
   lost_is = rw g (ap (λ (q : Phase). by_lost q m) k.at ∙ rw k.flying)
 
-  pub lost_idle : Idle (probe_lost m).mtud
+  pub lost_idle : Idle (left m (probe_lost m))
   unfolding search.missed
-  lost_idle = record { state = search.missed k.state; at = ap (λ (r : Done). r.mtud.phase) lost_is; idle = refl }
+  lost_idle = record { state = search.missed k.state; at = ap (λ (r : Result MtuDiscovery Refusal). (left m r).phase) lost_is; idle = refl }

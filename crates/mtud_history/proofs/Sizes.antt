@@ -4,9 +4,11 @@ use mathlib.Core.Path.{◌≡◌, refl}
 use mathlib.Core.Bool.{false}
 use mathlib.Core.List.{List}
 use mathlib.Core.Logic.{⊎_elim}
-use Prim.Native.Nat.{ℕ, zero, suc, ◌*◌, ◌^◌, ◌≤◌, ◌<◌, min}
+use Prim.Native.Nat.{ℕ, suc, ◌*◌, ◌^◌, ◌≤◌, ◌<◌, min}
 use native.Mathlib.Omega.{arith}
 use lib.ListN.{length}
+use Rattle.std.specs.Prelude.{Option, None, Some, Result}
+use Rattle.answers.specs.declared.Refusal.{Refusal}
 use Rattle.answers.proofs.Tests.{split}
 use Rattle.mtu_search.specs.Measure.{levels, sizes_most}
 use Rattle.mtu_search.specs.Count.{times, sizes}
@@ -14,16 +16,18 @@ use Rattle.mtu_search.proofs.Levels.{levels_plain, most_none, most_some, most_8,
 use Rattle.mtu_search.proofs.History.{Any, steps_sizes}
 use Rattle.mtu_phase.specs.Phase.{searching_b}
 use Rattle.mtud.specs.declared.MtuDiscovery.{MtuDiscovery}
-use Rattle.mtud.specs.declared.Done.{Done}
+use Rattle.mtud.specs.declared.Polled.{Polled}
+use Rattle.mtud.specs.Discovery.{or_most}
 use Rattle.mtud_history.specs.Bounds.{width_of, sizes_of}
+use Rattle.mtud_history.specs.Left.{probe_of}
 use Rattle.mtud_history.proofs.Calls.{Poll}
 use Rattle.mtud_history.proofs.History.{Run}
 use Rattle.mtud_history.proofs.Searches.{Search, begins, sends, waits, ack, miss, lose, peer, ask, reset, start_of, free, going}
 
 -- a search has sent a probe
 search_some : {zs : List ℕ} {m : MtuDiscovery} → Search zs m → 1 ≤ length zs
-search_some (begins now n r h g e d) = omega arith
-search_some (sends now n r h e d) = omega arith
+search_some (begins now n x r h g e d) = omega arith
+search_some (sends now n x r h e d) = omega arith
 search_some (waits now n r h e z g) = search_some h
 search_some (ack n x r h e) = search_some h
 search_some (miss r h e) = search_some h
@@ -38,19 +42,17 @@ pub search_sizes : {zs : List ℕ} {m : MtuDiscovery} (h : Search zs m)
 search_sizes {zs} {m} h =
     let k = going Any Any h (free h) in
     let o = start_of h in
-    steps_sizes Any Any o.current o.peer o.config.upper o.config.change k.fit k.steps
+    steps_sizes Any Any o.current (or_most o.peer) o.config.upper o.config.change k.fit k.steps
 
 -- no probe goes out where the bounds are nearer than the minimum change
-pub too_near : {p : ℕ} {m : MtuDiscovery} (now n : ℕ) (r : Done) → Run p m → searching_b m.phase ≡ false → width_of m < m.config.change → Poll m now n r
-    → r.value ≡ 0
+pub too_near : {p : ℕ} {m : MtuDiscovery} (now n : ℕ) (r : Result Polled Refusal) → Run p m → searching_b m.phase ≡ false → width_of m < m.config.change
+    → Poll m now n r → probe_of r ≡ None
 unfolding start_of
-too_near {p} {m} now n r h g l e = by r.value refl
+too_near {p} {m} now n r h g l e = by (probe_of r) refl
   where
-    by : (v : ℕ) → r.value ≡ v → r.value ≡ 0
-    by zero i = i
-    by (suc v) i =
-        let d : r.value ≡ 0 → ⊥ = λ z. omega arith in
-        absurd (omega (arith, (search_sizes (begins now n r h g e d)).0, most_none m.config.change (width_of m) l))
+    by : (v : Option ℕ) → probe_of r ≡ v → probe_of r ≡ None
+    by None i = i
+    by (Some x) i = absurd (omega (arith, (search_sizes (begins now n x r h g e i)).0, most_none m.config.change (width_of m) l))
 
 -- so a search runs only where they are as far apart as that, and it tries at most one size more than the levels of the distance
 pub search_levels : {zs : List ℕ} {m : MtuDiscovery} (h : Search zs m)
@@ -80,7 +82,7 @@ search_plain {zs} {m} h k l =
     (omega (arith, s.1.0), omega (arith, s.1.1))
 
 -- where no size above 1,500 is tried: at most 8 sizes and 24 probes from a minimum change of 3 on, at most 10 and 30 below that
-module _ {zs : List ℕ} {m : MtuDiscovery} (h : Search zs m) (u : min (start_of h).config.upper (start_of h).peer ≤ 1500) where
+module _ {zs : List ℕ} {m : MtuDiscovery} (h : Search zs m) (u : min (start_of h).config.upper (or_most (start_of h).peer) ≤ 1500) where
   within_300 : width_of (start_of h) ≤ 300
   within_300 = omega (arith, (going Any Any h (free h)).fit.low)
 

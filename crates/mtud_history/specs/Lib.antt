@@ -1,3 +1,4 @@
 pub mod Bounds
+pub mod Left
 pub mod Examples
 pub mod Told

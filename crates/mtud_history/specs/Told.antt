@@ -1,13 +1,19 @@
 -- The calls of a connection's MTU search with what they were given and what they answered, and what can be read off a list of them, the newest first, with no
 -- look at the record. Assumes nothing.
-use Rattle.std.specs.Prelude.{ℕ, min, ◌≡◌, cond, List, [], ◌∷◌, eqb}
+use Rattle.std.specs.Prelude.{ℕ, min, ◌≡◌, Bool, cond, List, [], ◌∷◌, eqb, Option, Result, Ok, Err, unwrap_or}
+use Rattle.answers.specs.Answers.{number}
+use Rattle.answers.specs.declared.Refusal.{Refusal}
 use Rattle.mtu_phase.specs.declared.MtuDiscoveryConfig.{MtuDiscoveryConfig}
-use Rattle.mtud.specs.declared.PeerMax.{PeerMax}
+use Rattle.mtud.specs.declared.MtuDiscovery.{MtuDiscovery}
+use Rattle.mtud.specs.declared.Polled.{Polled}
+use Rattle.mtud.specs.declared.Acked.{Acked}
+use Rattle.mtud.specs.declared.Asked.{Asked}
 use Rattle.mtud_history.specs.Bounds.{peer_of}
+use Rattle.mtud_history.specs.Left.{probe_of, was_probe, was_hole}
 
 -- what was called, with its arguments
 pub data Call : Type 0 where
-  new : (initial least : ℕ) (q : PeerMax) (c : MtuDiscoveryConfig) → Call
+  new : (initial least : ℕ) (q : Option ℕ) (c : MtuDiscoveryConfig) → Call
   disabled : (x least : ℕ) → Call
   reset : (x least : ℕ) → Call
   poll : (now n : ℕ) → Call
@@ -17,11 +23,32 @@ pub data Call : Type 0 where
   lost : (n x : ℕ) → Call
   hole : (now : ℕ) → Call
 
--- and what it answered: the answer's number, 0 for OK, and the value, 0 where there is none
+-- and what it answered: the answer's number, 0 for OK, and the value, 0 where there is none: the size of the probe that is asked for; 1 where the packet was
+-- the probe, or there is a black hole
 pub record Said : Type 0 where
   pub call : Call
   pub answer : ℕ
   pub value : ℕ
+
+-- what a call and its outcome say
+abbrev answered : {X : Type 0} → Result X Refusal → ℕ
+answered (Ok x) = 0
+answered (Err e) = number e
+
+abbrev one : Bool → ℕ
+one b = cond b 1 0
+
+abbrev pub say : Call → Result MtuDiscovery Refusal → Said
+say c r = record { call = c; answer = answered r; value = 0 }
+
+abbrev pub say_polled : Call → Result Polled Refusal → Said
+say_polled c r = record { call = c; answer = answered r; value = unwrap_or (probe_of r) 0 }
+
+abbrev pub say_acked : Call → Result Acked Refusal → Said
+say_acked c r = record { call = c; answer = answered r; value = one (was_probe r) }
+
+abbrev pub say_asked : Call → Result Asked Refusal → Said
+say_asked c r = record { call = c; answer = answered r; value = one (was_hole r) }
 
 -- what the list comes to: the MTU, the peer's maximum, the minimum size, and the packet number and the size of the probe that was asked for last, 0 for none
 pub record Facts : Type 0 where
@@ -60,7 +87,7 @@ known (e ∷ es) = after e.call e.answer e.value (known es)
 -- where a size comes from, of what was called and answered
 pub data Source : List Said → ℕ → Type 0 where
   -- the start, capped by the peer's maximum
-  begun : (initial least : ℕ) (q : PeerMax) (c : MtuDiscoveryConfig) (v : ℕ) (es : List Said)
+  begun : (initial least : ℕ) (q : Option ℕ) (c : MtuDiscoveryConfig) (v : ℕ) (es : List Said)
       → Source (record { call = new initial least q c; answer = 0; value = v } ∷ es) (min initial (peer_of q))
   off : (x least v : ℕ) (es : List Said) → Source (record { call = disabled x least; answer = 0; value = v } ∷ es) (min x 65527)
   -- a reset, capped too

@@ -1,7 +1,7 @@
 -- What can be said of buffered output: where the text has room it stands in the buffer, and nothing was written out; where it has none, what was
 -- gathered is written out first. Of what was written no contract can speak. Assumes nothing.
-use Rattle.std.specs.Prelude.{ℕ, ◌≤◌, ◌<◌, ◌≡◌, List, ◌⊎◌}
-use Rattle.answers.specs.Answers.{OK}
+use Rattle.std.specs.Prelude.{ℕ, ◌≤◌, ◌<◌, ◌≡◌, List, ◌⊎◌, Ok}
+use Rattle.std.specs.Result.{IsOk, IsErr}
 use Rattle.print.specs.Print.{put_at}
 
 -- the place of a writer whose last write failed
@@ -21,14 +21,14 @@ pub record Flushed (buf : List ℕ) (at : ℕ) (buf' : List ℕ) (at' : ℕ) : T
 -- a text that had no room: the write failed; or the text stands at the start; or it is longer than the buffer and was written out itself
 pub data Later (buf : List ℕ) (s : List ℕ) (buf' : List ℕ) (at' : ℕ) : Type 0 where
   failed : at' ≡ FAILED → buf' ≡ buf → Later buf s buf' at'
-  start : (put_at buf 0 s).out.answer ≡ OK → at' ≡ (put_at buf 0 s).out.next → buf' ≡ (put_at buf 0 s).mem → Later buf s buf' at'
-  long : ((put_at buf 0 s).out.answer ≡ OK → ⊥) → Written at' → buf' ≡ buf → Later buf s buf' at'
+  start : (put_at buf 0 s).out ≡ Ok at' → buf' ≡ (put_at buf 0 s).mem → Later buf s buf' at'
+  long : IsErr (put_at buf 0 s).out → Written at' → buf' ≡ buf → Later buf s buf' at'
 
 -- a text that has room stands in the buffer
 pub record Room (buf : List ℕ) (at : ℕ) (s : List ℕ) (buf' : List ℕ) (at' : ℕ) : Type 0 where
-  pub place : (put_at buf at s).out.answer ≡ OK → at' ≡ (put_at buf at s).out.next
-  pub bytes : (put_at buf at s).out.answer ≡ OK → buf' ≡ (put_at buf at s).mem
+  pub place : IsOk (put_at buf at s).out → (put_at buf at s).out ≡ Ok at'
+  pub bytes : IsOk (put_at buf at s).out → buf' ≡ (put_at buf at s).mem
 
 pub record Went (buf : List ℕ) (at : ℕ) (s : List ℕ) (buf' : List ℕ) (at' : ℕ) : Type 0 where
   pub room : Room buf at s buf' at'
-  pub later : ((put_at buf at s).out.answer ≡ OK → ⊥) → at ≤ 65536 → Later buf s buf' at'
+  pub later : IsErr (put_at buf at s).out → at ≤ 65536 → Later buf s buf' at'

@@ -1,22 +1,25 @@
 -- What each definition comes to at each return of the code: by its tests alone, and by the sizes of four windows.
 -- Assumes nothing.
-use Prim.Native.Nat.{ℕ, suc, ◌+◌, ◌-◌, ◌*◌, ◌/◌, ◌^◌, ◌<◌, ◌≤◌}
-use mathlib.Core.Path.{◌≡◌, refl, subst}
+use Prim.Native.Nat.{ℕ, zero, suc, ◌+◌, ◌-◌, ◌*◌, ◌/◌, ◌%◌, ◌^◌, ◌<◌, ◌≤◌}
+use mathlib.Core.Path.{◌≡◌, refl, ap, subst}
 use mathlib.Core.Bool.{Bool, true, false, ◌&&◌}
 use mathlib.Core.Logic.{⊎_elim}
 use mathlib.Core.List.{List}
 use native.Mathlib.Omega.{arith}
 use native.Mathlib.Nat.{pow-suc, pow-le-pow_right, one-le-pow}
-use native.Mathlib.Numerals.{add-one}
 use lib.ListN.{get_or, length}
 use lib.Dec.{ltb, leb, lit<}
 use borrow.Author.Tests.{lt-ltb, le-ltb, le-leb, lt-leb, ltb-true, leb-true}
 use Rattle.answers.proofs.Tests.{split}
-use Rattle.answers.specs.Answers.{OK, SHORT, RANGE, ROOM}
-use Rattle.big_endian.specs.Bytes.{put_bytes}
-use Rattle.big_endian.proofs.Laws.{put_all}
+use Rattle.std.specs.Prelude.{Ok, Err, Some, None}
+use Rattle.answers.specs.declared.Refusal.{Refusal}
+use Rattle.answers.specs.declared.Refusal.TheVariants.{Short, Range, Room}
+use Rattle.big_endian.specs.Bytes.{put_bytes, get_bytes}
+use Rattle.big_endian.proofs.Laws.{put_all, nothing_got, number_got, number_lt}
+use mir.Val.{Fits}
+use mir.Syntax.{w8}
 use Rattle.packet_number.specs.declared.Encoded.{Encoded}
-use Rattle.packet_number.specs.PacketNumber.{limit, distance, writable, window, fewest, len_of, refused, taken, new_of, done, encode_of, digits, candidate, too_low, too_high, moved, choice, unread, found, readable, expand_of}
+use Rattle.packet_number.specs.PacketNumber.{limit, distance, writable, window, fewest, len_of, taken, new_of, done, encode_of, digits, candidate, too_low, too_high, moved, choice, found, readable, expand_of}
 
 -- two tests hold where their conjunction does
 pub both : (a b : Bool) → (a && b) ≡ true → (a ≡ true) × (b ≡ true)
@@ -24,21 +27,14 @@ both true b h = (refl, h)
 both false b h = let y : ◌≡◌ {A = ℕ} 0 1 = cc in let z : ⊥ = omega arith in absurd z
 
 -- ---- the windows
-pub window_1 : {k : ℕ} → k ≡ 1 → 256 ≡ window k
+pub window_shift : (k : ℕ) → k ≤ 4 → 1 * 2 ^ (8 * k) % 2 ^ 64 ≡ window k
 unfolding window
-window_1 e = rw e
-
-pub window_2 : {k : ℕ} → k ≡ 2 → 65536 ≡ window k
-unfolding window
-window_2 e = rw e
-
-pub window_3 : {k : ℕ} → k ≡ 3 → 16777216 ≡ window k
-unfolding window
-window_3 e = rw e
-
-pub window_4 : {k : ℕ} → k ≡ 4 → 4294967296 ≡ window k
-unfolding window
-window_4 e = rw e
+window_shift zero h = refl
+window_shift (suc zero) h = refl
+window_shift (suc (suc zero)) h = refl
+window_shift (suc (suc (suc zero))) h = refl
+window_shift (suc (suc (suc (suc zero)))) h = refl
+window_shift (suc (suc (suc (suc (suc k))))) h = let z : ⊥ = omega arith in absurd z
 
 pub window_pos : (k : ℕ) → 1 ≤ window k
 unfolding window
@@ -52,11 +48,6 @@ pub window_mono : {k n : ℕ} → k ≤ n → window k ≤ window n
 unfolding window
 window_mono h = pow-le-pow_right (lit< {m = 0} {n = 256} tt) h
 
--- fewer than four bytes leave room for one more
-pub window_room : (k : ℕ) → k < 4 → window k ≤ 2 ^ 24
-unfolding window
-window_room k h = let m : k ≤ 3 = omega arith in pow-le-pow_right (lit< {m = 0} {n = 256} tt) m
-
 pub window_suc : (k : ℕ) → window (suc k) ≡ window k * 256
 unfolding window
 window_suc k = pow-suc 256 k
@@ -67,10 +58,14 @@ module _ (number acked : ℕ) where
   unfolding writable
   writable_below h = rw (lt-leb acked number h)
 
-  pub writable_by : {d : ℕ} → acked ≤ number → d ≡ distance number acked
-      → (ltb number limit && (ltb acked limit && ltb d (2 ^ 31))) ≡ writable number acked
+  pub writable_past : acked ≤ number → limit ≤ number → false ≡ writable number acked
   unfolding writable
-  writable_by h e = rw (le-leb acked number h, e)
+  writable_past g h = rw (le-leb acked number g, le-ltb number limit h)
+
+  -- what is not past the number is below the limit as it is
+  pub writable_by : acked ≤ number → number < limit → ltb (number - acked) (2 ^ 31) ≡ writable number acked
+  unfolding writable distance
+  writable_by g h = rw (le-leb acked number g, lt-ltb number limit h, lt-ltb acked limit (omega arith))
 
   pub writable_order : writable number acked ≡ true → acked ≤ number
   unfolding writable
@@ -84,6 +79,10 @@ module _ (number acked : ℕ) where
   unfolding writable
   writable_near h =
       ltb-true _ _ (both (ltb acked limit) _ (both (ltb number limit) _ (both (leb acked number) _ h).1).1).1
+
+  pub writable_close : writable number acked ≡ true → number - acked < 2 ^ 31
+  unfolding distance
+  writable_close h = writable_near h
 
 module _ (d : ℕ) where
   pub fewest_1 : 2 * d < 256 → 1 ≡ fewest d
@@ -122,40 +121,67 @@ module _ (d : ℕ) where
   fewest_high = by_length (λ k. k ≤ 4) (λ _. omega arith) (λ _ _. omega arith) (λ _ _. omega arith) (λ _. omega arith)
 
 module _ (number acked : ℕ) where
-  pub new_refuses : writable number acked ≡ false → refused RANGE ≡ new_of number acked
+  pub new_refuses : writable number acked ≡ false → Err Range ≡ new_of number acked
   unfolding new_of
   new_refuses h = rw h
 
-  pub new_takes : writable number acked ≡ true → taken (len_of number acked) number ≡ new_of number acked
-  unfolding new_of
-  new_takes h = rw h
+  pub new_takes : {k w : ℕ} → writable number acked ≡ true → k ≡ fewest (number - acked) → w ≡ window k
+      → Ok (record { len = k; value = number % w }) ≡ new_of number acked
+  unfolding new_of distance
+  new_takes h e f = rw (f, e, h)
 
   module _ (out : List ℕ) where
-    pub encode_refuses : {q : Encoded} → writable number acked ≡ false → q ≡ refused RANGE → done q out ≡ encode_of out number acked
-    unfolding encode_of
-    encode_refuses h p = rw (p, h)
+    -- `new` refuses, so `encode` does
+    pub encode_refuses : {w : Refusal} → Err w ≡ new_of number acked → done (Err w) out ≡ encode_of out number acked
+    unfolding encode_of new_of
+    encode_refuses {w} e = by_writable (writable number acked) refl where
+      by_writable : (b : Bool) → writable number acked ≡ b → done (Err w) out ≡ encode_of out number acked
+      by_writable true h = let f = rw h at e in let z : ⊥ = cc in absurd z
+      by_writable false h = let f = rw h at e in rw h (ap (λ r. done r out) f)
 
-    module _ {r : Encoded} (h : writable number acked ≡ true) (e : r ≡ new_of number acked) where
-      len_is : r.len ≡ len_of number acked
+    module _ {r : Encoded} (e : Ok r ≡ new_of number acked) where
+      -- `new` describes the field, so the number can be written
+      took : (writable number acked ≡ true) × (r ≡ taken (len_of number acked) number)
       unfolding new_of
-      len_is = rw (e, h)
+      took = by_writable (writable number acked) refl where
+        by_writable : (b : Bool) → writable number acked ≡ b → (writable number acked ≡ true) × (r ≡ taken (len_of number acked) number)
+        by_writable true h = let f = rw h at e in (h, cc)
+        by_writable false h = let f = rw h at e in let z : ⊥ = cc in absurd z
 
-      pub encode_room : {q : Encoded} → length out < r.len → q ≡ refused ROOM → done q out ≡ encode_of out number acked
+      pub encode_room : length out < r.len → done (Err Room) out ≡ encode_of out number acked
       unfolding encode_of
-      encode_room l p = rw (p, h, lt-leb (len_of number acked) (length out) (rw len_is at l))
+      encode_room l = rw (took.0, lt-leb (len_of number acked) (length out) (rw took.1 at l))
 
       pub encode_puts : {left : List ℕ} → r.len ≤ length out → left ≡ put_bytes r.len number out
-          → done r left ≡ encode_of out number acked
-      unfolding encode_of new_of
-      encode_puts l p = rw (p, put_all r.len number out l, len_is, h, le-leb (len_of number acked) (length out) (rw len_is at l), e, h)
+          → done (Ok r) left ≡ encode_of out number acked
+      unfolding encode_of
+      encode_puts l p = rw (p, put_all r.len number out l, took.1, took.0, le-leb (len_of number acked) (length out) (rw took.1 at l))
 
 -- ---- reading
--- one byte more, and still a number of the window
-pub window_step : {v b : ℕ} (k : ℕ) → v < window k → b < 256 → v * 256 + b < window (k + 1)
-window_step k h l = rw (add-one, window_suc) (omega arith)
+-- bytes are a number of their window
+pub number_fits : (s : List ℕ) → ((k : ℕ) → Fits w8 (get_or s k 0)) → (len : ℕ) {x w : ℕ} → Some x ≡ get_bytes len s → w ≡ window len → x < w
+unfolding window
+number_fits s h len e f = rw ((number_got len s e).1, f) (number_lt s (λ k. omega (arith, h k)) len)
 
-pub digits_step : (s : List ℕ) (k : ℕ) → digits s (k + 1) ≡ digits s k * 256 + get_or s k 0
-digits_step s k = rw add-one
+-- A.3's tests, as the code makes them
+module _ (expected win c : ℕ) where
+  pub low_here : c + win / 2 ≤ expected → c + win < limit → too_low expected win c ≡ true
+  low_here g h = rw (le-leb (c + win / 2) expected g, lt-ltb (c + win) limit h)
+
+  pub low_not : expected < c + win / 2 → too_low expected win c ≡ false
+  low_not g = rw (lt-leb (c + win / 2) expected g)
+
+  pub low_past : c + win / 2 ≤ expected → limit ≤ c + win → too_low expected win c ≡ false
+  low_past g h = rw (le-leb (c + win / 2) expected g, le-ltb (c + win) limit h)
+
+  pub high_here : expected + win / 2 < c → win ≤ c → too_high expected win c ≡ true
+  high_here g h = rw (lt-ltb (expected + win / 2) c g, le-leb win c h)
+
+  pub high_not : c ≤ expected + win / 2 → too_high expected win c ≡ false
+  high_not g = rw (le-ltb (expected + win / 2) c g)
+
+  pub high_zero : expected + win / 2 < c → c < win → too_high expected win c ≡ false
+  high_zero g h = rw (lt-ltb (expected + win / 2) c g, lt-leb win c h)
 
 module _ (expected win truncated : ℕ) where
   pub choice_up : too_low expected win (candidate expected win truncated) ≡ true
@@ -173,9 +199,6 @@ module _ (expected win truncated : ℕ) where
   unfolding choice moved
   choice_stays g h = rw (g, h)
 
-pub high_room : (expected win c : ℕ) → too_high expected win c ≡ true → win ≤ c
-high_room expected win c h = leb-true win c (both (ltb (expected + win / 2) c) (leb win c) h).1
-
 module _ (len largest : ℕ) (h : readable len largest ≡ true) where
   pub readable_low : 1 ≤ len
   readable_low = leb-true 1 len (both (leb 1 len) _ h).0
@@ -186,15 +209,30 @@ module _ (len largest : ℕ) (h : readable len largest ≡ true) where
   pub readable_limit : largest < limit
   readable_limit = ltb-true largest limit (both (leb len 4) (ltb largest limit) (both (leb 1 len) _ h).1).1
 
+module _ (len largest : ℕ) where
+  pub readable_by : 1 ≤ len → len ≤ 4 → largest < limit → readable len largest ≡ true
+  readable_by a b c = rw (le-leb 1 len a, le-leb len 4 b, lt-ltb largest limit c)
+
+  pub readable_none : len ≡ 0 → readable len largest ≡ false
+  readable_none e = rw e
+
+  pub readable_long : 4 < len → readable len largest ≡ false
+  readable_long h = rw (le-leb 1 len (omega arith), lt-leb len 4 h)
+
+  pub readable_past : 1 ≤ len → len ≤ 4 → limit ≤ largest → readable len largest ≡ false
+  readable_past a b h = rw (le-leb 1 len a, le-leb len 4 b, le-ltb largest limit h)
+
 module _ (s : List ℕ) (len largest : ℕ) where
-  pub expand_refuses : readable len largest ≡ false → unread RANGE ≡ expand_of s len largest
+  pub expand_refuses : readable len largest ≡ false → Err Range ≡ expand_of s len largest
   unfolding expand_of
   expand_refuses h = rw h
 
   module _ (h : readable len largest ≡ true) where
-    pub expand_short : length s < len → unread SHORT ≡ expand_of s len largest
+    pub expand_short : None ≡ get_bytes len s → Err Short ≡ expand_of s len largest
     unfolding expand_of
-    expand_short l = rw (h, lt-leb len (length s) l)
+    expand_short g =
+        let m = readable_high len largest h in
+        rw (h, lt-leb len (length s) (nothing_got len s (omega arith) g))
 
     pub expand_found : len ≤ length s → found (choice (largest + 1) (window len) (digits s len)) ≡ expand_of s len largest
     unfolding expand_of
@@ -204,8 +242,8 @@ module _ (s : List ℕ) (len largest : ℕ) where
       found_is : found v ≡ expand_of s len largest
       found_is = rw (e, p, q) (expand_found l)
 
-      pub expand_past : limit ≤ v → unread RANGE ≡ expand_of s len largest
+      pub expand_past : limit ≤ v → Err Range ≡ expand_of s len largest
       expand_past g = rw (le-ltb v limit g) at found_is
 
-      pub expand_reads : v < limit → record { answer = OK; number = v } ≡ expand_of s len largest
+      pub expand_reads : v < limit → Ok v ≡ expand_of s len largest
       expand_reads g = rw (lt-ltb v limit g) at found_is

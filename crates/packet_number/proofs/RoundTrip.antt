@@ -15,11 +15,11 @@ use borrow.Author.Tests.{le-leb, lt-leb, lt-ltb}
 use contract.Lifetimes.{Lfts}
 use denote.Ref.{Bor, MutBor, at_last}
 use Rattle.answers.proofs.Tests.{split}
-use Rattle.answers.specs.Answers.{OK}
+use Rattle.std.specs.Prelude.{Result, Ok}
+use Rattle.answers.specs.declared.Refusal.{Refusal}
 use Rattle.big_endian.specs.Bytes.{bytes}
 use Rattle.big_endian.proofs.Laws.{length_bytes}
 use Rattle.packet_number.specs.declared.Encoded.{Encoded}
-use Rattle.packet_number.specs.declared.Expanded.{Expanded}
 use Rattle.packet_number.specs.PacketNumber.{limit, distance, writable, window, fewest, len_of, taken, digits, choice, readable, expand_of, done, encode_of}
 use Rattle.packet_number.proofs.Laws.{window_suc, window_pos, fewest_low, fewest_high, writable_limit, writable_near, expand_reads}
 use Rattle.packet_number.proofs.Shortest.{fewest_enough}
@@ -52,7 +52,7 @@ module _ (number len largest : ℕ) (low : 1 ≤ len) (high : len ≤ 4) (known 
   may : readable len largest ≡ true
   may = rw (le-leb 1 len low, le-leb len 4 high, lt-ltb largest limit had)
 
-  pub reads_back : (rest : List ℕ) → expand_of (bytes len number ++ rest) len largest ≡ record { answer = OK; number = number }
+  pub reads_back : (rest : List ℕ) → expand_of (bytes len number ++ rest) len largest ≡ Ok number
   reads_back rest =
       sym
       (expand_reads (bytes len number ++ rest) len largest may
@@ -65,7 +65,7 @@ distance_covers number acked = omega arith
 
 -- What was written is read back by a receiver whose largest number lies anywhere from the acknowledged one to the one before it.
 pub round : (number acked largest : ℕ) → writable number acked ≡ true → acked ≤ largest → largest < number
-    → (rest : List ℕ) → expand_of (bytes (len_of number acked) number ++ rest) (len_of number acked) largest ≡ record { answer = OK; number = number }
+    → (rest : List ℕ) → expand_of (bytes (len_of number acked) number ++ rest) (len_of number acked) largest ≡ Ok number
 round number acked largest can from upto =
     let d = distance number acked in
     let k = fewest d in
@@ -76,37 +76,38 @@ round number acked largest can from upto =
     reads_back number k largest (fewest_low d) (fewest_high d) known (omega arith) (omega arith) (omega arith)
 
 -- an OK of the writer: the number could be written, and its low bytes stand at the start of the buffer
-pub encode_ok : (out : List ℕ) (number acked : ℕ) → (encode_of out number acked).out.answer ≡ OK
+pub encode_ok : (out : List ℕ) (number acked : ℕ) (r : Encoded) → (encode_of out number acked).out ≡ Ok r
     → (writable number acked ≡ true)
-    × (encode_of out number acked ≡ done (taken (len_of number acked) number) (bytes (len_of number acked) number ++ drop (len_of number acked) out))
+    × (encode_of out number acked ≡ done (Ok (taken (len_of number acked) number)) (bytes (len_of number acked) number ++ drop (len_of number acked) out))
 unfolding encode_of
-encode_ok out number acked e = by_writable (writable number acked) refl where
+encode_ok out number acked r e = by_writable (writable number acked) refl where
   by_writable : (b : Bool) → writable number acked ≡ b
       → (writable number acked ≡ true)
-      × (encode_of out number acked ≡ done (taken (len_of number acked) number) (bytes (len_of number acked) number ++ drop (len_of number acked) out))
+      × (encode_of out number acked ≡ done (Ok (taken (len_of number acked) number)) (bytes (len_of number acked) number ++ drop (len_of number acked) out))
   by_writable true h =
       ⊎_elim
-      (λ l. let y : ◌≡◌ {A = ℕ} 11 0 = rw (h, lt-leb (len_of number acked) (length out) l) at e in let z : ⊥ = omega arith in absurd z)
+      (λ l. let f = rw (h, lt-leb (len_of number acked) (length out) l) at e in let z : ⊥ = cc in absurd z)
       (λ l. (h, rw (h, le-leb (len_of number acked) (length out) l)))
       (split (length out) (len_of number acked))
-  by_writable false h = let y : ◌≡◌ {A = ℕ} 2 0 = rw h at e in let z : ⊥ = omega arith in absurd z
+  by_writable false h = let f = rw h at e in let z : ⊥ = cc in absurd z
 
 -- the contracts as the source states them: `encode` may answer r and leave m in the buffer, `expand` may answer x
-abbrev pub Sends : Lfts 1 → MutBor (List ℕ) → ℕ → ℕ → Encoded → List ℕ → Type 0
+abbrev pub Sends : Lfts 1 → MutBor (List ℕ) → ℕ → ℕ → Result Encoded Refusal → List ℕ → Type 0
 Sends κs out number acked r m = encode.Reads.Post κs (out, (number, (acked, tt))) r (at_last out m, (number, (acked, tt)))
 
-abbrev pub Gets : Lfts 1 → Bor (List ℕ) → ℕ → ℕ → Expanded → Type 0
+abbrev pub Gets : Lfts 1 → Bor (List ℕ) → ℕ → ℕ → Result ℕ Refusal → Type 0
 Gets κs s len largest x = expand.Reads.Post κs (s, (len, (largest, tt))) x (s, (len, (largest, tt)))
 
 -- So of the two functions: the bytes that `encode` wrote, whatever follows them, `expand` turns back into the number.
 pub sent_is_got :
-    (κs κt : Lfts 1) (out : MutBor (List ℕ)) (s : Bor (List ℕ)) (number acked largest : ℕ) (r : Encoded) (m rest : List ℕ) (x : Expanded)
-    → Sends κs out number acked r m → r.answer ≡ OK → s.now ≡ take r.len m ++ rest → acked ≤ largest → largest < number
-    → Gets κt s r.len largest x → x ≡ record { answer = OK; number = number }
-sent_is_got κs κt out s number acked largest r m rest x sends ok same from upto gets =
-    let can = encode_ok out.now number acked (sym (ap (λ d. d.out.answer) sends) ∙ ok) in
+    (κs κt : Lfts 1) (out : MutBor (List ℕ)) (s : Bor (List ℕ)) (number acked largest : ℕ) (r : Encoded) (m rest : List ℕ) (x : Result ℕ Refusal)
+    → Sends κs out number acked (Ok r) m → s.now ≡ take r.len m ++ rest → acked ≤ largest → largest < number
+    → Gets κt s r.len largest x → x ≡ Ok number
+sent_is_got κs κt out s number acked largest r m rest x sends same from upto gets =
+    let can = encode_ok out.now number acked r (sym (ap (λ d. d.out) sends)) in
     let k = len_of number acked in
     let wrote = sends ∙ can.1 in
-    let len : r.len ≡ k = ap (λ d. d.out.len) wrote in
+    let took : r ≡ taken k number = cc (ap (λ d. d.out) wrote) in
+    let len : r.len ≡ k = ap (λ d. d.len) took in
     let mem : m ≡ bytes k number ++ drop k out.now = ap (λ d. d.mem) wrote in
     gets ∙ rw (same, len, mem, take_at (bytes k number) (drop k out.now) k (length_bytes k number)) (round number acked largest can.0 from upto rest)

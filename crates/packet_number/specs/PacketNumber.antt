@@ -2,11 +2,11 @@
 -- Writing goes by the text of 17.1 (more than twice the distance), and not by A.2's pseudocode, which takes one byte at distance 128.
 -- Reading goes by A.3, term by term. A.3's differences may be below zero, so each of its comparisons is written here as one of sums.
 -- Assumes nothing.
-use Rattle.std.specs.Prelude.{ℕ, zero, suc, ◌+◌, ◌-◌, ◌*◌, ◌/◌, ◌%◌, ◌^◌, ◌<◌, ◌≤◌, ◌≡◌, Bool, cond, ◌&&◌, ◌⊎◌, List, ◌++◌, length, get_or, drop, ltb, leb}
-use Rattle.answers.specs.Answers.{OK, SHORT, RANGE, ROOM}
-use Rattle.big_endian.specs.Bytes.{bytes}
+use Rattle.std.specs.Prelude.{ℕ, ◌+◌, ◌-◌, ◌*◌, ◌/◌, ◌%◌, ◌^◌, ◌<◌, ◌≤◌, ◌≡◌, Bool, cond, ◌&&◌, ◌⊎◌, List, ◌++◌, Result, Ok, Err, length, drop, ltb, leb}
+use Rattle.answers.specs.declared.Refusal.{Refusal}
+use Rattle.answers.specs.declared.Refusal.TheVariants.{Short, Range, Room}
+use Rattle.big_endian.specs.Bytes.{bytes, number_of}
 use Rattle.packet_number.specs.declared.Encoded.{Encoded}
-use Rattle.packet_number.specs.declared.Expanded.{Expanded}
 
 -- packet numbers are below this (section 12.3; 01, "Limits")
 abbrev pub limit : ℕ
@@ -37,39 +37,34 @@ fewest d = cond (enough d 1) 1 (cond (enough d 2) 2 (cond (enough d 3) 3 4))
 abbrev pub len_of : ℕ → ℕ → ℕ
 len_of number acked = fewest (distance number acked)
 
--- a refusal has zero values (01, "Answers")
-abbrev pub refused : ℕ → Encoded
-refused answer = record { answer = answer; len = 0; value = 0 }
-
 -- 17.1: only the least significant bits are included
 abbrev pub taken : ℕ → ℕ → Encoded
-taken len number = record { answer = OK; len = len; value = number % window len }
+taken len number = record { len = len; value = number % window len }
 
 -- what `new` answers
-unfoldable pub new_of : ℕ → ℕ → Encoded
-new_of number acked = cond (writable number acked) (taken (len_of number acked) number) (refused RANGE)
+unfoldable pub new_of : ℕ → ℕ → Result Encoded Refusal
+new_of number acked = cond (writable number acked) (Ok (taken (len_of number acked) number)) (Err Range)
 
 -- what a call that writes comes to: its answer, and the memory it leaves
 pub record Done : Type 0 where
-  pub out : Encoded
+  pub out : Result Encoded Refusal
   pub mem : List ℕ
 
-abbrev pub done : Encoded → List ℕ → Done
+abbrev pub done : Result Encoded Refusal → List ℕ → Done
 done r m = record { out = r; mem = m }
 
 -- k bytes of the number at the start of out, where it has room for them
 abbrev pub put_of : ℕ → List ℕ → ℕ → Done
-put_of k out number = cond (leb k (length out)) (done (taken k number) (bytes k number ++ drop k out)) (done (refused ROOM) out)
+put_of k out number = cond (leb k (length out)) (done (Ok (taken k number)) (bytes k number ++ drop k out)) (done (Err Room) out)
 
 -- what `encode` answers and leaves: RANGE before ROOM, and a refusal leaves the buffer as it was
 unfoldable pub encode_of : List ℕ → ℕ → ℕ → Done
-encode_of out number acked = cond (writable number acked) (put_of (len_of number acked) out number) (done (refused RANGE) out)
+encode_of out number acked = cond (writable number acked) (put_of (len_of number acked) out number) (done (Err Range) out)
 
 -- ---- reading
 -- the number that the first k bytes of s are, the highest first
 abbrev pub digits : List ℕ → ℕ → ℕ
-digits s zero = 0
-digits s (suc k) = digits s k * 256 + get_or s k 0
+digits = number_of
 
 -- A.3: the expected number with its low bits, those below win, replaced by the truncated ones
 abbrev pub candidate : ℕ → ℕ → ℕ → ℕ
@@ -91,23 +86,20 @@ moved expected win c = cond (too_low expected win c) (c + win) (cond (too_high e
 unfoldable pub choice : ℕ → ℕ → ℕ → ℕ
 choice expected win truncated = moved expected win (candidate expected win truncated)
 
-abbrev pub unread : ℕ → Expanded
-unread answer = record { answer = answer; number = 0 }
-
 -- a result past the last packet number is refused (01)
-abbrev pub found : ℕ → Expanded
-found number = cond (ltb number limit) (record { answer = OK; number = number }) (unread RANGE)
+abbrev pub found : ℕ → Result ℕ Refusal
+found number = cond (ltb number limit) (Ok number) (Err Range)
 
 -- 01's limits on the arguments
 abbrev pub readable : ℕ → ℕ → Bool
 readable len largest = leb 1 len && (leb len 4 && ltb largest limit)
 
 -- what `expand` answers: RANGE on arguments, then SHORT, then A.3; the number expected is the largest received and one
-unfoldable pub expand_of : List ℕ → ℕ → ℕ → Expanded
+unfoldable pub expand_of : List ℕ → ℕ → ℕ → Result ℕ Refusal
 expand_of s len largest =
     cond (readable len largest)
-    (cond (leb len (length s)) (found (choice (largest + 1) (window len) (digits s len))) (unread SHORT))
-    (unread RANGE)
+    (cond (leb len (length s)) (found (choice (largest + 1) (window len) (digits s len))) (Err Short))
+    (Err Range)
 
 -- ---- what reading is for
 -- A.3's window and its guards: more than what is expected less half a window, unless one window up is no packet number; and no more than

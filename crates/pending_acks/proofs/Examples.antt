@@ -13,13 +13,14 @@ use Rattle.range_list.proofs.Sound.{by_bool, Sound, sound_parts, Formed, formed}
 use Rattle.range_list.proofs.Canon.{in_least}
 use Rattle.range_list.proofs.Kept.{over_same}
 use Rattle.range_list.proofs.Laws.{length_read}
-use Rattle.range_edit.specs.Edits.{insert, covers}
-use Rattle.answers.specs.Answers.{OK, RANGE, FULL}
+use Rattle.range_edit.specs.Edits.{insert, covers, done}
+use Rattle.std.specs.Prelude.{Ok, Some, None}
+use Rattle.answers.specs.declared.Refusal.TheVariants.{Range as OutOfRange, Full}
 use Rattle.range_edit.proofs.Changes.{covers_in}
-use Rattle.pending_acks.specs.Acks.{left, refuse, stay, insert_one, below, subtract_below}
+use Rattle.pending_acks.specs.Acks.{left, refuse, stay, insert_one, subtract_below}
 
 -- 7 into the empty set, and once more
-pub first : insert_one (0 ∷ 0 ∷ []) 0 7 ≡ left (record { answer = OK; count = 1; new = true; dropped = false; start = 0; end = 0 }) (7 ∷ 8 ∷ [])
+pub first : insert_one (0 ∷ 0 ∷ []) 0 7 ≡ left (Ok (record { count = 1; new = true; dropped = None })) (7 ∷ 8 ∷ [])
 unfolding insert_one
 first = refl
 
@@ -28,12 +29,12 @@ unfolding insert_one
 again = refl
 
 -- 4 between 3 and 5 makes one range of three numbers; what lies past it in the list is as it was
-pub joins : insert_one (3 ∷ 4 ∷ 5 ∷ 6 ∷ []) 2 4 ≡ left (record { answer = OK; count = 1; new = true; dropped = false; start = 0; end = 0 }) (3 ∷ 6 ∷ 5 ∷ 6 ∷ [])
+pub joins : insert_one (3 ∷ 4 ∷ 5 ∷ 6 ∷ []) 2 4 ≡ left (Ok (record { count = 1; new = true; dropped = None })) (3 ∷ 6 ∷ 5 ∷ 6 ∷ [])
 unfolding insert_one
 joins = refl
 
 -- a list of one place, and a second range
-pub no_place : insert_one (3 ∷ 4 ∷ []) 1 9 ≡ refuse FULL (3 ∷ 4 ∷ [])
+pub no_place : insert_one (3 ∷ 4 ∷ []) 1 9 ≡ refuse Full (3 ∷ 4 ∷ [])
 unfolding insert_one
 no_place = refl
 
@@ -43,16 +44,16 @@ ladder s zero = []
 ladder s (suc k) = s ∷ (s + 1) ∷ ladder (s + 2) k
 
 -- a count above 64 is no set of ours
-pub too_many : insert_one (ladder 10 65) 65 9 ≡ refuse RANGE (ladder 10 65)
+pub too_many : insert_one (ladder 10 65) 65 9 ≡ refuse OutOfRange (ladder 10 65)
 unfolding insert_one
 too_many = refl
 
 -- up to 4, with it, goes: of 3..9 what is above stays
-pub up_to_4 : subtract_below (1 ∷ 2 ∷ 3 ∷ 9 ∷ []) 2 4 ≡ below (record { answer = OK; count = 1; changed = true }) (5 ∷ 9 ∷ 3 ∷ 9 ∷ [])
+pub up_to_4 : subtract_below (1 ∷ 2 ∷ 3 ∷ 9 ∷ []) 2 4 ≡ done (Ok (record { count = 1; changed = true })) (5 ∷ 9 ∷ 3 ∷ 9 ∷ [])
 unfolding subtract_below
 up_to_4 = refl
 
-pub nothing_below : subtract_below (3 ∷ 9 ∷ []) 1 2 ≡ below (record { answer = OK; count = 1; changed = false }) (3 ∷ 9 ∷ [])
+pub nothing_below : subtract_below (3 ∷ 9 ∷ []) 1 2 ≡ done (Ok (record { count = 1; changed = false })) (3 ∷ 9 ∷ [])
 unfolding subtract_below
 nothing_below = refl
 
@@ -74,7 +75,7 @@ module _ (l : List ℕ) (k x : ℕ) (e : suc k ≡ 64) (w : well_formed l (suc k
   abbrev whole : Formed l (suc k)
   whole = formed l (suc k) w
 
-  drops_lowest : insert_one l (suc k) x ≡ left (record { answer = OK; count = suc k; new = true; dropped = true; start = x; end = x + 1 }) l
+  drops_lowest : insert_one l (suc k) x ≡ left (Ok (record { count = suc k; new = true; dropped = Some (record { start = x; end = x + 1 }) })) l
   unfolding insert_one
   drops_lowest =
       let r = range_at l 0 in
@@ -95,5 +96,5 @@ module _ (l : List ℕ) (k x : ℕ) (e : suc k ≡ 64) (w : well_formed l (suc k
 
 -- 64 ranges, and a number below them all that joins none: it is taken, it is the lowest, and it is dropped at once
 pub drops_itself : (l : List ℕ) (x : ℕ) → well_formed l 64 ≡ true → x + 1 < get_or l 0 0
-    → insert_one l 64 x ≡ left (record { answer = OK; count = 64; new = true; dropped = true; start = x; end = x + 1 }) l
+    → insert_one l 64 x ≡ left (Ok (record { count = 64; new = true; dropped = Some (record { start = x; end = x + 1 }) })) l
 drops_itself l x w low = drops_lowest l 63 x refl w low

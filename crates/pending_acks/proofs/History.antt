@@ -2,7 +2,7 @@
 -- were recorded and neither removed nor dropped since; so the sorted, shortest list of them. Each call does to the set what the range set's laws
 -- say of `insert` and `remove`, and a drop takes the first range of a sound list. A history is made of what the functions' own contracts allow,
 -- `insert_one_fn.Reads.Post` and `subtract_below_fn.Reads.Post`. Assumes nothing.
-use mathlib.Core.Path.{◌≡◌, refl, sym, ap, ◌∙◌, subst}
+use mathlib.Core.Path.{◌≡◌, refl, sym, ap, subst}
 use mathlib.Core.Bool.{true, false}
 use mathlib.Core.Logic.{◌⊎◌, inl, inr, ⊎_elim}
 use mathlib.Core.List.{List, [], ◌∷◌}
@@ -12,41 +12,44 @@ use lib.ListN.{length}
 use lib.Dec.{leb}
 use contract.Lifetimes.{Lfts}
 use denote.Ref.{MutBor, at_last}
-use borrow.Author.Tests.{leb-true, leb-false, lt-ltb, le-leb, eq-eqb}
-use Rattle.answers.specs.Answers.{OK}
+use borrow.Author.Tests.{leb-true, leb-false, lt-ltb, le-leb}
+use Prim.{Unit, tt}
+use Rattle.std.specs.Prelude.{Result, Ok, Err, Some, None, IsOk}
+use Rattle.answers.specs.declared.Refusal.{Refusal}
 use Rattle.range_list.specs.Ranges.{Range, read, flat, over, sound, well_formed, In}
 use Rattle.range_list.proofs.Sound.{by_bool, Sound, sound_parts, sound_weaker, formed}
 use Rattle.range_list.proofs.Canon.{canonical, in_least}
 use Rattle.range_list.proofs.Kept.{well_formed_is, read_over, formed_over}
 use Rattle.range_list.proofs.Laws.{length_read}
-use Rattle.range_edit.specs.Edits.{insert, covers, remove}
+use Rattle.range_edit.specs.Edits.{insert, covers, remove, Done}
 use Rattle.range_edit.proofs.Insert.{insert_to, insert_from, insert_sound}
 use Rattle.range_edit.proofs.Remove.{remove_to, remove_from_law, remove_sound}
 use Rattle.pending_acks.specs.declared.Recorded.{Recorded}
-use Rattle.pending_acks.specs.declared.Subtracted.{Subtracted}
+use Rattle.range_edit.specs.declared.Changed.{Changed}
+use Rattle.range_set.specs.declared.Span.{Span}
 use Rattle.range_set.proofs.AtLimit.{insert_length}
 use Rattle.range_edit.proofs.Changes.{covers_in, New, uncovered, clear, Common, met}
-use Rattle.pending_acks.specs.Acks.{Left, refuse, drop_lowest, keep, insert_one, Below, subtract_below}
-use Rattle.pending_acks.specs.History.{Event, recorded, removed, dropped, Holds, Received, after_insert, after_below, count_of}
+use Rattle.pending_acks.specs.Acks.{Left, drop_lowest, keep, insert_one, subtract_below}
+use Rattle.pending_acks.specs.History.{Event, recorded, removed, dropped, Holds, Received, with_drop, after_insert, after_below, count_of_insert, count_of_below}
 use Rattle.pending_acks.proofs.Sets.{remove_length, insert_cases, below_cases}
 use Rattle.range_list.proofs.Shortest.{shortest}
 use Rattle.pending_acks.proofs.insert_one as insert_one_fn
 use Rattle.pending_acks.proofs.subtract_below as subtract_below_fn
 
 -- a call on the lent list x, of n ranges, may answer r and leave m: the contracts as the source states them
-abbrev pub Inserts : (κs : Lfts 1) (x : MutBor (List ℕ)) (n p : ℕ) (r : Recorded) (m : List ℕ) → Type 0
+abbrev pub Inserts : (κs : Lfts 1) (x : MutBor (List ℕ)) (n p : ℕ) (r : Result Recorded Refusal) (m : List ℕ) → Type 0
 Inserts κs x n p r m = insert_one_fn.Reads.Post κs (x, (n, (p, tt))) r (at_last x m, (n, (p, tt)))
 
-abbrev pub Subtracts : (κs : Lfts 1) (x : MutBor (List ℕ)) (n p : ℕ) (r : Subtracted) (m : List ℕ) → Type 0
+abbrev pub Subtracts : (κs : Lfts 1) (x : MutBor (List ℕ)) (n p : ℕ) (r : Result Changed Refusal) (m : List ℕ) → Type 0
 Subtracts κs x n p r m = subtract_below_fn.Reads.Post κs (x, (n, (p, tt))) r (at_last x m, (n, (p, tt)))
 
 -- the list l with n ranges is what the calls left, and h what happened
 pub data Run : List Event → List ℕ → ℕ → Type 0 where
   start : (l : List ℕ) → Run [] l 0
-  inserted : {h : List Event} {n : ℕ} (κs : Lfts 1) (x : MutBor (List ℕ)) (p : ℕ) (r : Recorded) (m : List ℕ)
-      → Run h x.now n → Inserts κs x n p r m → Run (after_insert p r h) m (count_of r.answer r.count n)
-  subtracted : {h : List Event} {n : ℕ} (κs : Lfts 1) (x : MutBor (List ℕ)) (p : ℕ) (r : Subtracted) (m : List ℕ)
-      → Run h x.now n → Subtracts κs x n p r m → Run (after_below p r h) m (count_of r.answer r.count n)
+  inserted : {h : List Event} {n : ℕ} (κs : Lfts 1) (x : MutBor (List ℕ)) (p : ℕ) (r : Result Recorded Refusal) (m : List ℕ)
+      → Run h x.now n → Inserts κs x n p r m → Run (after_insert p r h) m (count_of_insert r n)
+  subtracted : {h : List Event} {n : ℕ} (κs : Lfts 1) (x : MutBor (List ℕ)) (p : ℕ) (r : Result Changed Refusal) (m : List ℕ)
+      → Run h x.now n → Subtracts κs x n p r m → Run (after_below p r h) m (count_of_below r n)
 
 -- what holds after each call
 pub record Kept (h : List Event) (l : List ℕ) (n : ℕ) : Type 0 where
@@ -80,10 +83,10 @@ module _ (r : Range) (rs : List Range) (s : sound 0 (r ∷ rs) ≡ true) where
 
 module _ (h : List Event) (l : List ℕ) (n p : ℕ) (w : Kept h l n) where
   abbrev AfterInsert : Left → Type 0
-  AfterInsert d = Kept (after_insert p d.out h) d.mem (count_of d.out.answer d.out.count n)
+  AfterInsert d = Kept (after_insert p d.out h) d.mem (count_of_insert d.out n)
 
-  abbrev AfterBelow : Below → Type 0
-  AfterBelow d = Kept (after_below p d.out h) d.mem (count_of d.out.answer d.out.count n)
+  abbrev AfterBelow : Done → Type 0
+  AfterBelow d = Kept (after_below p d.out h) d.mem (count_of_below d.out n)
 
   is_sound : sound 0 (read l 0 n) ≡ true
   is_sound = (formed l n w.formed).sound
@@ -175,10 +178,10 @@ only_received {h} a x k = held_received x h ((kept a).to x k)
 
 -- what is recorded is acknowledged, unless it is dropped at once
 pub recorded_is_held : {h : List Event} {n : ℕ} (κs : Lfts 1) (x : MutBor (List ℕ)) (p : ℕ) (r : Recorded) (m : List ℕ)
-    → Run h x.now n → Inserts κs x n p r m → r.answer ≡ OK → r.dropped ≡ false → In p (read m 0 r.count)
-recorded_is_held {h} {n} κs x p r m a b e d =
-    let k : Kept (after_insert p r h) m (count_of r.answer r.count n) = kept (inserted κs x p r m a b) in
-    let j : Kept (recorded p ∷ h) m r.count = simp (eq-eqb r.answer 0 e, d) at k in
+    → Run h x.now n → Inserts κs x n p (Ok r) m → r.dropped ≡ None → In p (read m 0 r.count)
+recorded_is_held {h} {n} κs x p r m a b d =
+    let k : Kept (after_insert p (Ok r) h) m r.count = kept (inserted κs x p (Ok r) m a b) in
+    let j : Kept (recorded p ∷ h) m r.count = subst (λ o. Kept (with_drop o (recorded p ∷ h)) m r.count) d k in
     j.from p (inr refl)
 
 -- ---- what the values say
@@ -186,62 +189,69 @@ recorded_is_held {h} {n} κs x p r m a b e d =
 -- what is told of a recorded number p, in terms of the numbers held before
 pub record Told (h : List Event) (p : ℕ) (r : Recorded) : Type 0 where
   -- `new` says whether p was not held
-  pub new : r.answer ≡ OK → r.new ≡ true → Holds p h → ⊥
-  pub old : r.answer ≡ OK → r.new ≡ false → Holds p h
+  pub new : r.new ≡ true → Holds p h → ⊥
+  pub old : r.new ≡ false → Holds p h
   -- a drop takes numbers that were held, p among them perhaps, and they are the lowest; 64 ranges are left
-  pub took : r.dropped ≡ true → (x : ℕ) → r.start ≤ x → x < r.end → Holds x (recorded p ∷ h)
-  pub low : r.dropped ≡ true → (x : ℕ) → Holds x (dropped r.start r.end ∷ recorded p ∷ h) → r.end < x
-  pub many : r.dropped ≡ true → r.count ≡ 64
+  pub took : (d : Span) → r.dropped ≡ Some d → (x : ℕ) → d.start ≤ x → x < d.end → Holds x (recorded p ∷ h)
+  pub low : (d : Span) → r.dropped ≡ Some d → (x : ℕ) → Holds x (dropped d.start d.end ∷ recorded p ∷ h) → d.end < x
+  pub many : (d : Span) → r.dropped ≡ Some d → r.count ≡ 64
+
+-- the same of a call's result: a refusal tells nothing
+abbrev ToldOf : List Event → ℕ → Result Recorded Refusal → Type 0
+ToldOf h p (Ok r) = Told h p r
+ToldOf h p (Err why) = Unit {0}
 
 never : false ≡ true → ⊥
 never e = let z : ◌≡◌ {A = ℕ} 0 1 = cc in omega arith
 
 module _ (h : List Event) (l : List ℕ) (n p : ℕ) (w : Kept h l n) where
-  refusal : (a : ℕ) → (a ≡ OK → ⊥) → Told h p (refuse a l).out
-  refusal a f = record { new = λ e. absurd (f e); old = λ e. absurd (f e); took = λ e. absurd (never e); low = λ e. absurd (never e); many = λ e. absurd (never e) }
-
   unheld : covers p (p + 1) (read l 0 n) ≡ false → Holds p h → ⊥
   unheld u k =
       let v : New p (p + 1) (read l 0 n) = uncovered 0 p (p + 1) (read l 0 n) (omega arith) (formed l n w.formed).sound u in
       let e : p ≡ v.number = omega (arith, v.from, v.upto) in
       v.new (subst (λ (x : ℕ). In x (read l 0 n)) e (w.from p k))
 
-  tells : Told h p (insert_one l n p).out
+  tells : ToldOf h p (insert_one l n p).out
   tells =
-      insert_cases l n p (λ d. Told h p d.out) (refusal 2 (λ e. omega arith)) (refusal 5 (λ e. omega arith))
+      insert_cases l n p (λ d. ToldOf h p d.out) tt tt
       (λ k u.
       record {
-        new = λ e f. absurd (never f);
-        old = λ e f. w.to p (covers_in p p (p + 1) (read l 0 n) u (omega arith) (omega arith));
-        took = λ e. absurd (never e);
-        low = λ e. absurd (never e);
-        many = λ e. absurd (never e);
+        new = λ f. absurd (never f);
+        old = λ f. w.to p (covers_in p p (p + 1) (read l 0 n) u (omega arith) (omega arith));
+        took = λ d e. absurd (cc);
+        low = λ d e. absurd (cc);
+        many = λ d e. absurd (cc);
       })
       (λ k u few room.
-      record { new = λ e f. unheld u; old = λ e f. absurd (never (sym f)); took = λ e. absurd (never e); low = λ e. absurd (never e); many = λ e. absurd (never e) })
+      record { new = λ f. unheld u; old = λ f. absurd (never (sym f)); took = λ d e. absurd (cc); low = λ d e. absurd (cc); many = λ d e. absurd (cc) })
       (λ v u r rs e few room.
       let s : sound 0 (r ∷ rs) ≡ true = subst (λ (q : List Range). sound 0 q ≡ true) e (with_sound h l n p w v.number) in
       record {
-        new = λ f g. unheld u;
-        old = λ f g. absurd (never (sym g));
-        took = λ f x a b. with_to h l n p w x (subst (In x) (sym e) (inl (a, b)));
-        low = λ f x j. rest_above r rs s x (rest_from r rs s x (subst (In x) e (with_from h l n p w x j.0)) j.1);
-        many = λ f. few;
+        new = λ g. unheld u;
+        old = λ g. absurd (never (sym g));
+        took = λ d f x a b.
+            let z : record { start = r.lo; end = r.hi } ≡ d = cc in
+            with_to h l n p w x (subst (In x) (sym e) (inl (omega (arith, ap (λ (q : Span). q.start) z), omega (arith, ap (λ (q : Span). q.end) z))));
+        low = λ d f x j.
+            let z : d ≡ record { start = r.lo; end = r.hi } = cc in
+            let k : Holds x (dropped r.lo r.hi ∷ recorded p ∷ h) = subst (λ (q : Span). Holds x (dropped q.start q.end ∷ recorded p ∷ h)) z j in
+            omega (arith, ap (λ (q : Span). q.end) z, rest_above r rs s x (rest_from r rs s x (subst (In x) e (with_from h l n p w x k.0)) k.1));
+        many = λ d f. few;
       })
 
 -- with 64 places the set always fits
 module _ (l : List ℕ) (room : 64 ≤ length l / 2) where
-  drop_fits : (qs : List Range) → length qs ≤ 65 → 64 < length qs → (drop_lowest qs l).out.answer ≡ OK
+  drop_fits : (qs : List Range) → length qs ≤ 65 → 64 < length qs → IsOk (drop_lowest qs l).out
   drop_fits [] e f = absurd (omega arith)
   drop_fits (r ∷ rs) e f = rw (le-leb (length rs) (length l / 2) (omega arith))
 
-  keep_fits : (qs : List Range) → length qs ≤ 65 → (keep qs l).out.answer ≡ OK
+  keep_fits : (qs : List Range) → length qs ≤ 65 → IsOk (keep qs l).out
   keep_fits qs e =
       by_bool (leb (length qs) 64)
       (λ t. rw (t, le-leb (length qs) (length l / 2) (omega (arith, leb-true (length qs) 64 t))))
       (λ t. rw t (drop_fits qs e (leb-false (length qs) 64 t)))
 
-  takes : (h : List Event) (n p : ℕ) → Kept h l n → p < 2 ^ 62 → (insert_one l n p).out.answer ≡ OK
+  takes : (h : List Event) (n p : ℕ) → Kept h l n → p < 2 ^ 62 → IsOk (insert_one l n p).out
   unfolding insert_one
   takes h n p w k =
       let e : length (insert p (p + 1) (read l 0 n)) ≤ 65 = omega (arith, insert_length p (p + 1) (read l 0 n), length_read l 0 n, w.few) in
@@ -250,35 +260,39 @@ module _ (l : List ℕ) (room : 64 ≤ length l / 2) where
 
 -- what `insert_one` says is so
 pub insert_told : {h : List Event} {n : ℕ} (κs : Lfts 1) (x : MutBor (List ℕ)) (p : ℕ) (r : Recorded) (m : List ℕ)
-    → Run h x.now n → Inserts κs x n p r m → Told h p r
-insert_told {h} {n} κs x p r m a b = subst (λ (d : Left). Told h p d.out) (sym b) (tells h x.now n p (kept a))
+    → Run h x.now n → Inserts κs x n p (Ok r) m → Told h p r
+insert_told {h} {n} κs x p r m a b = subst (λ (d : Left). ToldOf h p d.out) (sym b) (tells h x.now n p (kept a))
 
 -- 64 places suffice: then every packet number is taken
-pub places_suffice : {h : List Event} {n : ℕ} (κs : Lfts 1) (x : MutBor (List ℕ)) (p : ℕ) (r : Recorded) (m : List ℕ)
-    → Run h x.now n → Inserts κs x n p r m → 64 ≤ length x.now / 2 → p < 2 ^ 62 → r.answer ≡ OK
-places_suffice {h} {n} κs x p r m a b g k = ap (λ (d : Left). d.out.answer) b ∙ takes x.now g h n p (kept a) k
+pub places_suffice : {h : List Event} {n : ℕ} (κs : Lfts 1) (x : MutBor (List ℕ)) (p : ℕ) (r : Result Recorded Refusal) (m : List ℕ)
+    → Run h x.now n → Inserts κs x n p r m → 64 ≤ length x.now / 2 → p < 2 ^ 62 → IsOk r
+places_suffice {h} {n} κs x p r m a b g k = subst (λ (d : Left). IsOk d.out) (sym b) (takes x.now g h n p (kept a) k)
 
 -- what is told of a removal up to p: `changed` says whether a number up to p was held
-pub record Went (h : List Event) (p : ℕ) (r : Subtracted) : Type 0 where
-  pub none : r.answer ≡ OK → r.changed ≡ false → (x : ℕ) → Holds x h → p < x
-  pub some : r.answer ≡ OK → r.changed ≡ true → ((x : ℕ) → Holds x h → p < x) → ⊥
+pub record Went (h : List Event) (p : ℕ) (r : Changed) : Type 0 where
+  pub none : r.changed ≡ false → (x : ℕ) → Holds x h → p < x
+  pub some : r.changed ≡ true → ((x : ℕ) → Holds x h → p < x) → ⊥
 
-goes : (h : List Event) (l : List ℕ) (n p : ℕ) → Kept h l n → Went h p (subtract_below l n p).out
+abbrev WentOf : List Event → ℕ → Result Changed Refusal → Type 0
+WentOf h p (Ok r) = Went h p r
+WentOf h p (Err why) = Unit {0}
+
+goes : (h : List Event) (l : List ℕ) (n p : ℕ) → Kept h l n → WentOf h p (subtract_below l n p).out
 goes h l n p w =
-    below_cases l n p (λ d. Went h p d.out) (record { none = λ e. absurd (omega arith); some = λ e. absurd (omega arith) })
+    below_cases l n p (λ d. WentOf h p d.out) tt
     (λ v u.
     record {
-      none = λ e f x k. ⊎_elim (λ b. absurd (omega arith)) (λ b. omega arith) (clear x 0 (p + 1) (read l 0 n) u (w.from x k));
-      some = λ e f. absurd (never f);
+      none = λ f x k. ⊎_elim (λ b. absurd (omega arith)) (λ b. omega arith) (clear x 0 (p + 1) (read l 0 n) u (w.from x k));
+      some = λ f. absurd (never f);
     })
     (λ v u.
     record {
-      none = λ e f. absurd (never (sym f));
-      some = λ e f g.
+      none = λ f. absurd (never (sym f));
+      some = λ f g.
           let c : Common 0 (p + 1) (read l 0 n) = met 0 0 (p + 1) (read l 0 n) (omega arith) (formed l n w.formed).sound u in
           omega (arith, c.upto, g c.number (w.to c.number c.held));
     })
 
-pub below_went : {h : List Event} {n : ℕ} (κs : Lfts 1) (x : MutBor (List ℕ)) (p : ℕ) (r : Subtracted) (m : List ℕ)
-    → Run h x.now n → Subtracts κs x n p r m → Went h p r
-below_went {h} {n} κs x p r m a b = subst (λ (d : Below). Went h p d.out) (sym b) (goes h x.now n p (kept a))
+pub below_went : {h : List Event} {n : ℕ} (κs : Lfts 1) (x : MutBor (List ℕ)) (p : ℕ) (r : Changed) (m : List ℕ)
+    → Run h x.now n → Subtracts κs x n p (Ok r) m → Went h p r
+below_went {h} {n} κs x p r m a b = subst (λ (d : Done). WentOf h p d.out) (sym b) (goes h x.now n p (kept a))

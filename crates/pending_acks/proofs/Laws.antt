@@ -1,7 +1,6 @@
 -- The returns of the two calls: what `range_set` promises of its insert at a limit and of its remove is what is defined here. A number that is
 -- there already makes no range more, a drop needs no place more, nor does a removal from the bottom. Assumes nothing.
 use mathlib.Core.Path.{◌≡◌, ap, ◌∙◌}
-use mathlib.Core.Bool.{false}
 use mathlib.Core.List.{List, [], ◌∷◌}
 use Prim.Native.Nat.{ℕ, ◌+◌, ◌/◌, ◌^◌, ◌≤◌, ◌<◌}
 use native.Mathlib.Omega.{arith}
@@ -12,19 +11,25 @@ use Rattle.range_list.specs.Ranges.{Range, read, well_formed}
 use Rattle.range_list.proofs.Sound.{by_bool, formed}
 use Rattle.range_list.proofs.Laws.{length_read}
 use Rattle.range_edit.specs.declared.Changed.{Changed}
-use Rattle.range_edit.specs.Edits.{insert, covers, remove, meets, Done, done, insert_into, remove_from}
+use Rattle.range_edit.specs.Edits.{insert, covers, remove, meets, done, insert_into, remove_from}
+use Rattle.std.specs.Prelude.{Result, Ok, Err}
+use Rattle.answers.specs.declared.Refusal.{Refusal}
+use Rattle.answers.specs.declared.Refusal.TheVariants.{Range as OutOfRange}
 use Rattle.range_set.specs.declared.Capped.{Capped}
+use Rattle.pending_acks.specs.declared.Recorded.{Recorded}
 use Rattle.range_set.specs.Set.{Cap, cap, lowest_out, cappable, insert_capped, valid, on_range, remove_range}
 use Rattle.range_set.proofs.AtLimit.{insert_length}
 use Rattle.range_edit.proofs.Changes.{covered_same}
-use Rattle.pending_acks.specs.Acks.{Left, left, drop_lowest, usable, insert_one, Below, below, subtract_below}
+use Rattle.pending_acks.specs.Acks.{Left, left, drop_lowest, usable, insert_one, subtract_below}
 use Rattle.pending_acks.proofs.Sets.{remove_length, Usable, is_usable}
 
 -- what `range_set` says, in our words
+abbrev said_of : Result Capped Refusal → Result Recorded Refusal
+said_of (Ok r) = Ok (record { count = r.count; new = r.changed; dropped = r.dropped })
+said_of (Err why) = Err why
+
 abbrev said : Cap → Left
-said c =
-    left (record { answer = c.out.answer; count = c.out.count; new = c.out.changed; dropped = c.out.dropped; start = c.out.start; end = c.out.end })
-    c.mem
+said c = left (said_of c.out) c.mem
 
 -- the lowest of 65 ranges goes, and the list has places for the rest
 drop_is : (l : List ℕ) (n : ℕ) → n ≤ length l / 2 → (qs : List Range) → length qs ≤ n + 1 → 0 < length qs → said (lowest_out qs l) ≡ drop_lowest qs l
@@ -55,23 +60,23 @@ module _ (l : List ℕ) (n x : ℕ) where
       (λ t. rw t)
 
   -- `insert_one`
-  pub says_insert : {r : Capped} {m : List ℕ} → cap r m ≡ insert_capped l n x 64
-      → left (record { answer = r.answer; count = r.count; new = r.changed; dropped = r.dropped; start = r.start; end = r.end }) m ≡ insert_one l n x
+  pub says_insert : {r : Capped} {m : List ℕ} → cap (Ok r) m ≡ insert_capped l n x 64
+      → left (Ok (record { count = r.count; new = r.changed; dropped = r.dropped })) m ≡ insert_one l n x
   says_insert e = ap said e ∙ capped_is
 
+  pub says_refused : {why : Refusal} {m : List ℕ} → cap (Err why) m ≡ insert_capped l n x 64 → left (Err why) m ≡ insert_one l n x
+  says_refused e = ap said e ∙ capped_is
+
   -- `subtract_below`
-  pub says_far : 2 ^ 62 ≤ x → below (record { answer = 2; count = 0; changed = false }) l ≡ subtract_below l n x
+  pub says_far : 2 ^ 62 ≤ x → done (Err OutOfRange) l ≡ subtract_below l n x
   unfolding subtract_below
   says_far k = rw (le-ltb x (2 ^ 62) k)
 
-  pub says_many : x < 2 ^ 62 → 64 < n → below (record { answer = 2; count = 0; changed = false }) l ≡ subtract_below l n x
+  pub says_many : x < 2 ^ 62 → 64 < n → done (Err OutOfRange) l ≡ subtract_below l n x
   unfolding subtract_below
   says_many k j = rw (lt-ltb x (2 ^ 62) k, lt-leb n 64 j)
 
-  abbrev gone : Done → Below
-  gone d = below (record { answer = d.out.answer; count = d.out.count; changed = d.out.changed }) d.mem
-
-  removed_is : x < 2 ^ 62 → n ≤ 64 → gone (remove_range l n 0 (x + 1)) ≡ subtract_below l n x
+  removed_is : x < 2 ^ 62 → n ≤ 64 → remove_range l n 0 (x + 1) ≡ subtract_below l n x
   unfolding on_range valid remove_from subtract_below
   removed_is k j =
       by_bool (well_formed l n)
@@ -83,8 +88,7 @@ module _ (l : List ℕ) (n x : ℕ) where
       (λ u. simp (lt-ltb x (2 ^ 62) k, le-leb n 64 j, le-leb (x + 1) (2 ^ 62) (omega arith), t, lt-ltb 0 (x + 1) (omega arith), u)))
       (λ t. simp (lt-ltb x (2 ^ 62) k, le-leb n 64 j, le-leb (x + 1) (2 ^ 62) (omega arith), t))
 
-  pub says_removed : x < 2 ^ 62 → n ≤ 64 → {r : Changed} {m : List ℕ} → done r m ≡ remove_range l n 0 (x + 1)
-      → below (record { answer = r.answer; count = r.count; changed = r.changed }) m ≡ subtract_below l n x
-  says_removed k j e = ap gone e ∙ removed_is k j
+  pub says_removed : x < 2 ^ 62 → n ≤ 64 → {r : Result Changed Refusal} {m : List ℕ} → done r m ≡ remove_range l n 0 (x + 1) → done r m ≡ subtract_below l n x
+  says_removed k j e = e ∙ removed_is k j
 
-pub ruleset says = (says_insert, says_far, says_many, says_removed)
+pub ruleset says = (says_insert, says_refused, says_far, says_many, says_removed)

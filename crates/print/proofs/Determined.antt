@@ -1,5 +1,5 @@
 -- Each public promise fixes its outcome, since it is an equation of the answer and of the whole buffer. Assumes nothing.
-use mathlib.Core.Path.{◌≡◌, sym, ap, ◌∙◌}
+use mathlib.Core.Path.{sym, ap, ◌∙◌}
 use Rattle.answers.proofs.Promise.{Whole}
 use Rattle.print.proofs.text as text
 use Rattle.print.proofs.number as number

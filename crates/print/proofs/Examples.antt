@@ -1,6 +1,8 @@
 -- Worked texts, by computing. Assumes nothing.
 use mathlib.Core.Path.{◌≡◌, refl}
-use mathlib.Core.List.{List, [], ◌∷◌, ◌++◌}
+use mathlib.Core.List.{[], ◌∷◌}
+use Rattle.std.specs.Prelude.{Err}
+use Rattle.answers.specs.declared.Refusal.TheVariants.{Room}
 use Rattle.print.specs.Print.{decimal_onto, decimal, hexed, range, put_at, done}
 
 pub nought : decimal 0 ≡ 48 ∷ []
@@ -20,6 +22,6 @@ unfolding hexed
 two_bytes = refl
 
 -- a text that does not fit leaves the buffer as it was
-pub no_room : put_at (1 ∷ 2 ∷ []) 1 (7 ∷ 8 ∷ []) ≡ done (record { answer = 11; next = 0 }) (1 ∷ 2 ∷ [])
+pub no_room : put_at (1 ∷ 2 ∷ []) 1 (7 ∷ 8 ∷ []) ≡ done (Err Room) (1 ∷ 2 ∷ [])
 unfolding put_at
 no_room = refl

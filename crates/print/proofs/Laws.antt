@@ -1,27 +1,26 @@
 -- Laws of what is put into a buffer: a step of a loop each, and one for each return. They hold by unfolding the definition at the front of what is left.
 use mathlib.Core.Path.{◌≡◌, refl, sym, ap, ◌∙◌}
 use mathlib.Core.List.{List, [], ◌∷◌, ◌++◌}
-use mathlib.Core.Bool.{Bool, true, false, cond}
 use Prim.Native.Nat.{ℕ, zero, suc, ◌+◌, ◌-◌, ◌*◌, ◌/◌, ◌%◌, ◌^◌, ◌≤◌, ◌<◌}
 use native.Mathlib.Omega.{arith}
 use native.Mathlib.Nat.{pow-suc, add-zero, le_refl}
 use native.Mathlib.Numerals.{add-one}
 use lib.ListN.{length, take, drop, get_or, set, length-drop, length-append, length-set, drop_of_length-le}
-use lib.Seq.{take_all, drop-cons, get_or-set_same, drop-set-lt, sets, length-sets}
-use lib.Dec.{ltb, leb}
+use lib.Seq.{take_all, drop-cons, get_or-set_same, drop-set-lt, sets}
 use borrow.Author.Tests.{lt-ltb, le-ltb, le-leb, lt-leb}
-use Rattle.answers.specs.Answers.{OK, ROOM}
+use Rattle.std.specs.Prelude.{Ok, Err}
+use Rattle.std.proofs.lemmas.List.Edits.{sets-eq}
+use Rattle.std.proofs.lemmas.List.{append_assoc, drop-drop}
+use borrow.Rule.Slice.PartMut.{put_mid}
+use Rattle.answers.specs.declared.Refusal.TheVariants.{Room}
 use Rattle.print.specs.Print.{glyph, decimal_onto, decimal, hexed, range, put_at, Done, done}
 
+-- a part that is copied over
+pub copied : (out s : List ℕ) (at k : ℕ) → k ≡ length s → at + length s ≤ length out → put_mid at k out s ≡ sets out at s
+copied out s at k e h =
+    rw (sets-eq s out at h, e) (ap (λ l. take at out ++ (s ++ l)) (drop-drop (length s) at out) ∙ sym (append_assoc (take at out) s (drop (at + length s) out)))
+
 module _ (out s : List ℕ) (at i : ℕ) where
-  pub copy_on : i < length s → sets (set out (at + i) (get_or s i 0)) (at + (i + 1)) (drop (i + 1) s) ≡ sets out (at + i) (drop i s)
-  copy_on h =
-      let k : at + (i + 1) ≡ suc (at + i) = omega arith in
-      rw (k, add-one, drop-cons s i 0 h)
-
-  pub copy_end : length s ≤ i → sets out (at + i) (drop i s) ≡ out
-  copy_end h = rw (drop_of_length-le s {i = i} h)
-
   pub spread_on : i < length s
       → sets (set (set out (at + 2 * i) (glyph (get_or s i 0 / 16))) (at + 2 * i + 1) (glyph (get_or s i 0 % 16))) (at + 2 * (i + 1)) (hexed (drop (i + 1) s))
       ≡ sets out (at + 2 * i) (hexed (drop i s))
@@ -79,20 +78,16 @@ unfolding hexed
 hexed_length [] = refl
 hexed_length (b ∷ s) = let e : length (hexed s) ≡ 2 * length s = hexed_length s in omega arith
 
--- ---- one law for each return: n bytes s go to `at`
+-- ---- one law for each return: n bytes s go to `at`, up to `end`
 
 module _ (out : List ℕ) (at : ℕ) (s : List ℕ) {n : ℕ} (e : n ≡ length s) where
-  pub put_outside : length out < at → done (record { answer = ROOM; next = 0 }) out ≡ put_at out at s
+  pub put_none : length out < at + n → done (Err Room) out ≡ put_at out at s
   unfolding put_at
-  put_outside h = rw (lt-leb (at + length s) (length out) (omega arith))
+  put_none h = rw (lt-leb (at + length s) (length out) (omega arith))
 
-  pub put_room : at ≤ length out → length out - at < n → done (record { answer = ROOM; next = 0 }) out ≡ put_at out at s
+  pub put_ok : {end : ℕ} {m : List ℕ} → end ≡ at + n → end ≤ length out → m ≡ sets out at s → done (Ok end) m ≡ put_at out at s
   unfolding put_at
-  put_room h k = rw (lt-leb (at + length s) (length out) (omega arith))
-
-  pub put_ok : {m : List ℕ} → at ≤ length out → n ≤ length out - at → m ≡ sets out at s → done (record { answer = OK; next = at + n }) m ≡ put_at out at s
-  unfolding put_at
-  put_ok h k g = rw (le-leb (at + length s) (length out) (omega arith), g, e)
+  put_ok q h g = rw (le-leb (at + length s) (length out) (omega arith), g, q, e)
 
 -- three parts, one behind the other
 pub three_length : (a b c : List ℕ) → length a + length b + length c ≡ length (a ++ (b ++ c))

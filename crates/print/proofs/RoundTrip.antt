@@ -1,18 +1,16 @@
 -- What is printed is read back: a number below 2^64 by its decimal digits, and bytes by their hexadecimal ones. By induction on the digits, and on the bytes.
 -- Assumes nothing.
-use mathlib.Core.Path.{◌≡◌, refl, sym, ap, ◌∙◌}
+use mathlib.Core.Path.{◌≡◌, refl, ◌∙◌}
 use mathlib.Core.Logic.{⊎_elim}
-use mathlib.Core.List.{List, [], ◌∷◌, ◌++◌}
-use mathlib.Core.Bool.{Bool, true, false, cond, ◌&&◌}
+use mathlib.Core.List.{List, [], ◌∷◌}
+use mathlib.Core.Bool.{true}
 use Prim.Native.Nat.{ℕ, zero, suc, ◌+◌, ◌-◌, ◌*◌, ◌/◌, ◌%◌, ◌^◌, ◌≤◌, ◌<◌}
 use native.Mathlib.Omega.{arith}
 use native.Mathlib.Nat.{pow-suc}
-use lib.ListN.{length, get_or}
-use lib.Dec.{ltb, leb}
+use lib.ListN.{length}
 use borrow.Author.Tests.{lt-ltb, le-ltb, le-leb, lt-leb}
 use Rattle.answers.proofs.Tests.{split}
-use Rattle.text.specs.declared.Digits.{Digits}
-use Rattle.text.specs.declared.Digits.TheVariants.{Is, Not}
+use Rattle.std.specs.Prelude.{Some}
 use Rattle.text.specs.Numbers.{number_from, number_of}
 use Rattle.text.specs.Bytes.{hex_value, is_hex, unhexed}
 use Rattle.text.proofs.Laws.{number_start}
@@ -51,7 +49,7 @@ onto_some zero n rest = ⊎_elim (λ g. rw (lt-ltb 9 n g) (omega arith)) (λ l. 
 onto_some (suc k) n rest = ⊎_elim (λ g. rw (lt-ltb 9 n g) (onto_some k (n / 10) (glyph (n % 10) ∷ rest))) (λ l. rw (le-ltb 9 n l) (omega arith)) (split 9 n)
 
 -- what is printed for a number, parsed, is the number
-pub number_back : (n : ℕ) → n < 18446744073709551616 → number_of (decimal n) ≡ Is n
+pub number_back : (n : ℕ) → n < 18446744073709551616 → number_of (decimal n) ≡ Some n
 unfolding decimal
 number_back n h = number_start (decimal_onto 20 n []) (onto_some 19 n []) ∙ onto_read 19 n [] (omega arith) h
 

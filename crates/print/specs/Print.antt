@@ -1,8 +1,8 @@
 -- What is printed: the bytes of a number, of a range of numbers and of a byte string, and where they go. Assumes nothing.
-use Rattle.std.specs.Prelude.{ℕ, zero, suc, ◌+◌, ◌/◌, ◌%◌, List, [], ◌∷◌, ◌++◌, cond, length, ltb, leb}
+use Rattle.std.specs.Prelude.{ℕ, zero, suc, ◌+◌, ◌/◌, ◌%◌, List, [], ◌∷◌, ◌++◌, cond, length, ltb, leb, Result, Ok, Err}
 use Rattle.std.proofs.lemmas.List.Edits.{sets}
-use Rattle.answers.specs.Answers.{OK, ROOM}
-use Rattle.print.specs.declared.Put.{Put}
+use Rattle.answers.specs.declared.Refusal.{Refusal}
+use Rattle.answers.specs.declared.Refusal.TheVariants.{Room}
 
 -- the ASCII code of a digit below 16: `0` to `9`, then `a` to `f`
 abbrev pub glyph : ℕ → ℕ
@@ -26,17 +26,17 @@ hexed (b ∷ s) = glyph (b / 16) ∷ glyph (b % 16) ∷ hexed s
 unfoldable pub range : ℕ → ℕ → List ℕ
 range a b = decimal a ++ (46 ∷ 46 ∷ decimal b)
 
--- an answer, and what is left in the lent buffer
+-- where the next text goes, or why there is none; and what is left in the lent buffer
 pub record Done : Type 0 where
-  pub out : Put
+  pub out : Result ℕ Refusal
   pub mem : List ℕ
 
-abbrev pub done : Put → List ℕ → Done
+abbrev pub done : Result ℕ Refusal → List ℕ → Done
 done r m = record { out = r; mem = m }
 
 -- the bytes s go to `at` and behind it, where they have room; else all is as it was
 unfoldable pub put_at : List ℕ → ℕ → List ℕ → Done
 put_at out at s =
     cond (leb (at + length s) (length out))
-    (done (record { answer = OK; next = at + length s }) (sets out at s))
-    (done (record { answer = ROOM; next = 0 }) out)
+    (done (Ok (at + length s)) (sets out at s))
+    (done (Err Room) out)

@@ -17,6 +17,9 @@ use Rattle.range_list.proofs.Sound.{by_lt, Sound, sound_parts, sound_made, sound
 use Rattle.range_list.proofs.Laws.{read_drop, length_read}
 use Rattle.range_edit.specs.Edits.{insert, covers, below, grown, head_covers, done, refuse, stay, insert_into}
 use Rattle.range_edit.specs.declared.Grown.{Grown}
+use Rattle.range_edit.specs.declared.Changed.{Changed}
+use Rattle.std.specs.Prelude.{Ok}
+use Rattle.answers.specs.declared.Refusal.TheVariants.{Full}
 
 -- two ranges that touch, joined: the numbers of either
 pub join_to : (x s e a b : ℕ) → s ≤ b → a ≤ e → (min s a ≤ x) × (x < max e b) → ((a ≤ x) × (x < b)) ⊎ ((s ≤ x) × (x < e))
@@ -188,12 +191,12 @@ module _ (l : List ℕ) (n s e : ℕ) (h : s < e) (w : Formed l n) (lo : ℕ) (p
   puts_none x = simp (covers_is true x)
 
   module _ (x : false ≡ head_covers s e (read l lo (n - lo))) (g : Grown) (r : Reached l n s e lo g) where
-    pub puts_full : length l / 2 < lo + 1 + (n - g.upto) → refuse 5 l ≡ insert_into l n s e
+    pub puts_full : length l / 2 < lo + 1 + (n - g.upto) → refuse Full l ≡ insert_into l n s e
     unfolding insert_into
     puts_full z = simp (covers_is false x, r.size, lt-leb _ _ z)
 
-    pub puts_one : (m : List ℕ) → lo + 1 + (n - g.upto) ≤ length l / 2
+    pub puts_one : (r' : Changed) → r' ≡ record { count = lo + 1 + (n - g.upto); changed = true } → (m : List ℕ) → lo + 1 + (n - g.upto) ≤ length l / 2
         → m ≡ over (flat (splice (read l 0 n) lo g.upto (grown_range g ∷ []))) l
-        → done (record { answer = 0; count = lo + 1 + (n - g.upto); changed = true }) m ≡ insert_into l n s e
+        → done (Ok r') m ≡ insert_into l n s e
     unfolding insert_into
-    puts_one m z y = rw (y, ← r.splices) (simp (covers_is false x, r.size, le-leb _ _ z))
+    puts_one r' f m z y = rw (f, y, ← r.splices) (simp (covers_is false x, r.size, le-leb _ _ z))

@@ -1,12 +1,13 @@
 -- The turns of the walks: one range more is one unfolding of what the walk means.
 -- Assumes nothing.
 use mathlib.Core.Path.{◌≡◌, refl, sym, ap, ◌∙◌}
-use mathlib.Core.Bool.{true, false}
+use mathlib.Core.Bool.{false}
 use mathlib.Core.List.{List, [], ◌∷◌, ◌++◌}
 use Prim.Native.Nat.{ℕ, suc, ◌+◌, ◌-◌, ◌*◌, ◌/◌, ◌≤◌, ◌<◌, min, max}
 use native.Mathlib.Nat.{sub-zero, zero-add}
 use native.Mathlib.Omega.{arith}
 use lib.ListN.{length, get_or, set}
+use lib.Dec.{leb}
 use borrow.Author.Tests.{le-ltb, lt-ltb, le-leb, lt-leb}
 use Rattle.range_list.specs.Ranges.{Range, range_at, read, flat, over}
 use Rattle.range_list.proofs.Laws.{read_step, read_end, length_read, over_range, read_snoc}
@@ -28,9 +29,9 @@ module _ (l : List ℕ) (s i n x : ℕ) (inv : i + below s (read l i (n - i)) �
       let e : below s (read l i (n - i)) ≡ below s (read l (i + 1) (n - (i + 1))) + 1 = rw (read_step l i n h) (simp (lt-ltb _ _ a)) in
       omega arith
 
-  pub below_end : n ≤ i → i ≡ x
+  pub below_end : i ≡ n → n ≡ x
   below_end h =
-      let e : below s (read l i (n - i)) ≡ 0 = rw (read_end l i n h) in
+      let e : below s (read l i (n - i)) ≡ 0 = rw (read_end l i n (omega arith)) in
       omega arith
 
 -- the turn of `grow`
@@ -42,22 +43,19 @@ module _ (l : List ℕ) (a b i n : ℕ) where
       → grown (i + 1) (min a (get_or l (i * 2) 0)) (max b (get_or l (i * 2 + 1) 0)) (read l (i + 1) (n - (i + 1))) ≡ grown i a b (read l i (n - i))
   grown_on h k = rw (read_step l i n h) (simp (le-ltb _ _ k))
 
-  pub grown_end : n ≤ i → grown i a b (read l i (n - i)) ≡ record { upto = i; lo = a; hi = b }
-  grown_end h = rw (read_end l i n h)
+  pub grown_end : i ≡ n → grown i a b (read l i (n - i)) ≡ record { upto = n; lo = a; hi = b }
+  grown_end h = rw (read_end l i n (omega arith)) (λ j. record { upto = h j; lo = a; hi = b })
 
 -- the tests of `covered`
 module _ (l : List ℕ) (s e i n : ℕ) where
   pub head_none : n ≤ i → false ≡ head_covers s e (read l i (n - i))
   head_none h = rw (read_end l i n h)
 
-  pub head_after : i < n → s < get_or l (i * 2) 0 → false ≡ head_covers s e (read l i (n - i))
+  pub head_after : i < n → s < get_or l (i * 2) 0 → leb (get_or l (i * 2) 0) s ≡ head_covers s e (read l i (n - i))
   head_after h a = rw (read_step l i n h) (simp (lt-leb _ _ a))
 
-  pub head_short : i < n → get_or l (i * 2) 0 ≤ s → get_or l (i * 2 + 1) 0 < e → false ≡ head_covers s e (read l i (n - i))
-  head_short h a b = rw (read_step l i n h) (simp (le-leb _ _ a, lt-leb _ _ b))
-
-  pub head_all : i < n → get_or l (i * 2) 0 ≤ s → e ≤ get_or l (i * 2 + 1) 0 → true ≡ head_covers s e (read l i (n - i))
-  head_all h a b = rw (read_step l i n h) (simp (le-leb _ _ a, le-leb _ _ b))
+  pub head_from : i < n → get_or l (i * 2) 0 ≤ s → leb e (get_or l (i * 2 + 1) 0) ≡ head_covers s e (read l i (n - i))
+  head_from h a = rw (read_step l i n h) (simp (le-leb _ _ a))
 
 -- the turn of `cut_at`
 module _ (l : List ℕ) (e b i n : ℕ) where
@@ -67,8 +65,8 @@ module _ (l : List ℕ) (e b i n : ℕ) where
   pub cut_on : i < n → get_or l (i * 2) 0 < e → cut (i + 1) e (get_or l (i * 2 + 1) 0) (read l (i + 1) (n - (i + 1))) ≡ cut i e b (read l i (n - i))
   cut_on h k = rw (read_step l i n h) (simp (lt-ltb _ _ k))
 
-  pub cut_end : n ≤ i → cut i e b (read l i (n - i)) ≡ record { upto = i; last = b }
-  cut_end h = rw (read_end l i n h)
+  pub cut_end : i ≡ n → cut i e b (read l i (n - i)) ≡ record { upto = n; last = b }
+  cut_end h = rw (read_end l i n (omega arith)) (λ j. record { upto = h j; last = b })
 
 pub clipped_append : (s e : ℕ) (a b : List Range) → clipped s e (a ++ b) ≡ clipped s e a ++ clipped s e b
 clipped_append s e [] b = refl

@@ -18,6 +18,8 @@ use Rattle.range_list.proofs.Laws.{read_at, length_read}
 use Rattle.range_edit.specs.Edits.{below, piece, remove, meets, cut, done, refuse, stay, settle, remove_from}
 use Rattle.range_edit.specs.declared.Changed.{Changed}
 use Rattle.range_edit.specs.declared.Cut.{Cut}
+use Rattle.std.specs.Prelude.{Ok}
+use Rattle.answers.specs.declared.Refusal.TheVariants.{Full}
 use Rattle.range_edit.proofs.Insert.{From, from_below, Passed}
 
 piece_to : (x a b : ℕ) (rs : List Range) → In x (piece a b rs) → ((a ≤ x) × (x < b)) ⊎ In x rs
@@ -210,15 +212,15 @@ module _ (l : List ℕ) (n s e : ℕ) where
       pub size : length (splice (read l 0 n) lo c.upto mid) ≡ lo + (n - c.upto) + length mid
       size = simp (length-append, length-drop, length-take-le lo (read l 0 n) (omega (arith, length_read l 0 n, x.within)), length_read) (omega arith)
 
-      pub cuts_full : length l / 2 < lo + (n - c.upto) + length mid → refuse 5 l ≡ remove_from l n s e
+      pub cuts_full : length l / 2 < lo + (n - c.upto) + length mid → refuse Full l ≡ remove_from l n s e
       cuts_full z = rw (x.is, m) (simp (lt-ltb lo c.upto h, size, lt-leb _ _ z))
 
-      pub cuts_put : (r : Changed) → r ≡ record { answer = 0; count = lo + (n - c.upto) + length mid; changed = true } → (now : List ℕ) → lo + (n - c.upto) + length mid ≤ length l / 2 → now ≡ over (flat (splice (read l 0 n) lo c.upto mid)) l
-          → done r now ≡ remove_from l n s e
+      pub cuts_put : (r : Changed) → r ≡ record { count = lo + (n - c.upto) + length mid; changed = true } → (now : List ℕ) → lo + (n - c.upto) + length mid ≤ length l / 2 → now ≡ over (flat (splice (read l 0 n) lo c.upto mid)) l
+          → done (Ok r) now ≡ remove_from l n s e
       cuts_put r f now z y = rw (f, x.is, m, y) (simp (lt-ltb lo c.upto h, size, le-leb _ _ z))
 
     pub cuts_all : lo < c.upto → n ≤ length l / 2 → piece (get_or l (lo * 2) 0) s (piece e c.last []) ≡ []
-        → (r : Changed) → r ≡ record { answer = 0; count = lo + (n - c.upto); changed = true } → (now : List ℕ) → now ≡ over (flat (splice (read l 0 n) lo c.upto [])) l
-        → done r now ≡ remove_from l n s e
+        → (r : Changed) → r ≡ record { count = lo + (n - c.upto); changed = true } → (now : List ℕ) → now ≡ over (flat (splice (read l 0 n) lo c.upto [])) l
+        → done (Ok r) now ≡ remove_from l n s e
     cuts_all h k m r f now y =
-        cuts_put h [] m r (f ∙ ap (λ (z : ℕ). record { answer = 0; count = z; changed = true }) (sym (add-zero (lo + (n - c.upto))))) now (omega (arith, x.within)) y
+        cuts_put h [] m r (f ∙ ap (λ (z : ℕ). record { count = z; changed = true }) (sym (add-zero (lo + (n - c.upto))))) now (omega (arith, x.within)) y

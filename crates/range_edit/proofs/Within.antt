@@ -17,6 +17,8 @@ use Rattle.range_list.proofs.Laws.{length_read, read_take}
 use Rattle.range_edit.specs.Edits.{below, cut, clipped, grown, within, both, refuse_both, settle_both, replace_in}
 use Rattle.range_edit.specs.declared.Grown.{Grown}
 use Rattle.range_edit.specs.declared.Cut.{Cut}
+use Rattle.std.specs.Prelude.{Ok}
+use Rattle.answers.specs.declared.Refusal.TheVariants.{Full}
 use Rattle.range_edit.proofs.Laws.{length_clipped}
 use Rattle.range_edit.proofs.Insert.{From, from_below, Passed, Reached, reached, grown_range}
 use Rattle.range_edit.proofs.Remove.{cut_from, cut_upto}
@@ -83,8 +85,8 @@ pub record Plan (l : List ℕ) (n s e first : ℕ) (c : Cut) (lo : ℕ) (g : Gro
   pub upto : g.upto ≤ n
   pub is : replace_in l n s e m
       ≡ cond (leb (lo + 1 + (n - g.upto)) (length l / 2) && leb (c.upto - first) (length m / 2))
-      (both (record { answer = 0; count = lo + 1 + (n - g.upto); parts = c.upto - first }) (over (flat (splice (read l 0 n) lo g.upto (grown_range g ∷ []))) l) (over (flat (clipped s e (read l first (c.upto - first)))) m))
-      (refuse_both 5 l m)
+      (both (Ok (record { count = lo + 1 + (n - g.upto); parts = c.upto - first })) (over (flat (splice (read l 0 n) lo g.upto (grown_range g ∷ []))) l) (over (flat (clipped s e (read l first (c.upto - first)))) m))
+      (refuse_both Full l m)
 
 pub plan : (l : List ℕ) (n s e first : ℕ) (c : Cut) (lo : ℕ) (g : Grown) (m : List ℕ) → s < e → Formed l n
     → Passed l n (s + 1) first → c ≡ cut first e 0 (read l first (n - first)) → Passed l n s lo → g ≡ grown lo s e (read l lo (n - lo)) → Plan l n s e first c lo g m
@@ -102,18 +104,18 @@ plan l n s e first c lo g m h v p x q y =
       above = r.above;
       upto = r.within;
       is = (λ i. settle_both (r.splices i) (w.numbers i) l m)
-          ∙ (λ i. cond (leb (a i) (length l / 2) && leb (b i) (length m / 2)) (both (record { answer = 0; count = a i; parts = b i }) (over (flat rs) l) (over (flat ps) m)) (refuse_both 5 l m));
+          ∙ (λ i. cond (leb (a i) (length l / 2) && leb (b i) (length m / 2)) (both (Ok (record { count = a i; parts = b i })) (over (flat rs) l) (over (flat ps) m)) (refuse_both Full l m));
     }
 
 -- the answers of `put_reporting`
 module _ (l : List ℕ) (n s e first : ℕ) (c : Cut) (lo : ℕ) (g : Grown) (m : List ℕ) (p : Plan l n s e first c lo g m) where
-  pub reports_full : length l / 2 < lo + 1 + (n - g.upto) → refuse_both 5 l m ≡ replace_in l n s e m
+  pub reports_full : length l / 2 < lo + 1 + (n - g.upto) → refuse_both Full l m ≡ replace_in l n s e m
   reports_full h = rw p.is (simp (lt-leb _ _ h))
 
-  pub reports_full_parts : lo + 1 + (n - g.upto) ≤ length l / 2 → length m / 2 < c.upto - first → refuse_both 5 l m ≡ replace_in l n s e m
+  pub reports_full_parts : lo + 1 + (n - g.upto) ≤ length l / 2 → length m / 2 < c.upto - first → refuse_both Full l m ≡ replace_in l n s e m
   reports_full_parts k h = rw p.is (simp (le-leb _ _ k, lt-leb _ _ h))
 
   pub reports_put : lo + 1 + (n - g.upto) ≤ length l / 2 → c.upto - first ≤ length m / 2 → (l' m' : List ℕ)
       → l' ≡ over (flat (splice (read l 0 n) lo g.upto (grown_range g ∷ []))) l → m' ≡ over (flat (clipped s e (read l first (c.upto - first)))) m
-      → both (record { answer = 0; count = lo + 1 + (n - g.upto); parts = c.upto - first }) l' m' ≡ replace_in l n s e m
+      → both (Ok (record { count = lo + 1 + (n - g.upto); parts = c.upto - first })) l' m' ≡ replace_in l n s e m
   reports_put k h l' m' x y = rw (p.is, x, y) (simp (le-leb _ _ k, le-leb _ _ h))

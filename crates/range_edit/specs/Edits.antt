@@ -1,8 +1,9 @@
 -- What the set's operations make of a list of ranges (01, Range set), by recursion on the list, and what a call leaves in memory.
 -- The theorems that these are the sets meant are in proofs/: Insert.antt, Remove.antt, Within.antt, Changes.antt.
 -- Assumes nothing.
-use Rattle.std.specs.Prelude.{ℕ, ◌+◌, ◌/◌, min, max, Bool, true, false, cond, ◌&&◌, ◌||◌, List, [], ◌∷◌, length, ltb, leb}
-use Rattle.answers.specs.Answers.{OK, FULL}
+use Rattle.std.specs.Prelude.{Result, Ok, Err, ℕ, ◌+◌, ◌/◌, min, max, Bool, true, false, cond, ◌&&◌, ◌||◌, List, [], ◌∷◌, length, ltb, leb}
+use Rattle.answers.specs.declared.Refusal.{Refusal}
+use Rattle.answers.specs.declared.Refusal.TheVariants.{Full}
 use Rattle.range_list.specs.Ranges.{Range, read, flat, over}
 use Rattle.range_edit.specs.declared.Changed.{Changed}
 use Rattle.range_edit.specs.declared.Replaced.{Replaced}
@@ -43,26 +44,26 @@ within s e (r ∷ rs) = piece (max s r.lo) (min e r.hi) (within s e rs)
 
 -- what a call leaves: its answer, and the memory
 pub record Done : Type 0 where
-  pub out : Changed
+  pub out : Result Changed Refusal
   pub mem : List ℕ
 
-abbrev pub done : Changed → List ℕ → Done
+abbrev pub done : Result Changed Refusal → List ℕ → Done
 done r m = record { out = r; mem = m }
 
--- a refusal: zero values, and the memory as it was
-abbrev pub refuse : ℕ → List ℕ → Done
-refuse answer l = done (record { answer = answer; count = 0; changed = false }) l
+-- a refusal: its reason, and the memory as it was
+abbrev pub refuse : Refusal → List ℕ → Done
+refuse why l = done (Err why) l
 
 -- the set is as it was
 abbrev pub stay : List ℕ → ℕ → Done
-stay l n = done (record { answer = OK; count = n; changed = false }) l
+stay l n = done (Ok (record { count = n; changed = false })) l
 
--- the set becomes rs, where there is room for it: else FULL
+-- the set becomes rs, where there is room for it: else Full
 abbrev pub settle : List Range → List ℕ → Done
 settle rs l =
     cond (leb (length rs) (length l / 2))
-    (done (record { answer = OK; count = length rs; changed = true }) (over (flat rs) l))
-    (refuse FULL l)
+    (done (Ok (record { count = length rs; changed = true })) (over (flat rs) l))
+    (refuse Full l)
 
 -- s..e put into the n ranges of l, and taken out of them
 unfoldable pub insert_into : List ℕ → ℕ → ℕ → ℕ → Done
@@ -73,22 +74,22 @@ remove_from l n s e = cond (meets s e (read l 0 n)) (settle (remove s e (read l 
 
 -- what a call leaves that writes two memories
 pub record Both : Type 0 where
-  pub out : Replaced
+  pub out : Result Replaced Refusal
   pub mem : List ℕ
   pub parts : List ℕ
 
-abbrev pub both : Replaced → List ℕ → List ℕ → Both
+abbrev pub both : Result Replaced Refusal → List ℕ → List ℕ → Both
 both r l m = record { out = r; mem = l; parts = m }
 
-abbrev pub refuse_both : ℕ → List ℕ → List ℕ → Both
-refuse_both answer l m = both (record { answer = answer; count = 0; parts = 0 }) l m
+abbrev pub refuse_both : Refusal → List ℕ → List ℕ → Both
+refuse_both why l m = both (Err why) l m
 
--- the set becomes rs in l, and m holds ps, where there is room for both: else FULL
+-- the set becomes rs in l, and m holds ps, where there is room for both: else Full
 abbrev pub settle_both : List Range → List Range → List ℕ → List ℕ → Both
 settle_both rs ps l m =
     cond (leb (length rs) (length l / 2) && leb (length ps) (length m / 2))
-    (both (record { answer = OK; count = length rs; parts = length ps }) (over (flat rs) l) (over (flat ps) m))
-    (refuse_both FULL l m)
+    (both (Ok (record { count = length rs; parts = length ps })) (over (flat rs) l) (over (flat ps) m))
+    (refuse_both Full l m)
 
 -- s..e put into the n ranges of l, with what of it was there already written to m
 unfoldable pub replace_in : List ℕ → ℕ → ℕ → ℕ → List ℕ → Both

@@ -6,21 +6,19 @@ ghost use Rattle.std.specs.Prelude.{◌≡◌, true, ℕ, ◌+◌, ◌-◌, ◌*
 ghost use Rattle.range_list.specs.Ranges.{Range, read, flat, over, well_formed};
 ghost use Rattle.range_edit.specs.Edits.{below, grown, head_covers, cut, clipped, done, insert_into, remove_from, both, replace_in};
 
-use answers::{FULL, OK};
+use answers::Refusal;
 use range_list::{splice_none, splice_one, splice_two};
 
-// What a change of a set answers: the answer, how many ranges it has now, and whether it is another set.
-#[derive(Clone, Copy)]
+// What a change of a set gives: how many ranges it has now, and whether it is another set.
+#[derive(Clone, Copy, Debug, PartialEq, Eq)]
 pub struct Changed {
-    pub answer: u8,
     pub count: usize,
     pub changed: bool,
 }
 
-// What a replace answers: the answer, how many ranges the set has now, and how many parts are reported.
-#[derive(Clone, Copy)]
+// What a replace gives: how many ranges the set has now, and how many parts are reported.
+#[derive(Clone, Copy, Debug, PartialEq, Eq)]
 pub struct Replaced {
-    pub answer: u8,
     pub count: usize,
     pub parts: usize,
 }
@@ -30,14 +28,12 @@ pub fn passed(list: &[u64], count: usize, s: u64) -> usize
     requires { well_formed list.now count ≡ true }
     ensures { result ≡ below s (read list.now 0 count) }
 {
-    let mut i = 0;
-    while i < count {
+    for i in 0..count {
         if s <= list[i * 2 + 1] {
             return i;
         }
-        i += 1;
     }
-    i
+    count
 }
 
 // A range that took up the ranges before number upto.
@@ -55,8 +51,7 @@ pub fn grow(list: &[u64], from: usize, count: usize, s: u64, e: u64) -> Grown
 {
     let mut a = s;
     let mut b = e;
-    let mut i = from;
-    while i < count {
+    for i in from..count {
         let x = list[i * 2];
         let y = list[i * 2 + 1];
         if b < x {
@@ -66,12 +61,11 @@ pub fn grow(list: &[u64], from: usize, count: usize, s: u64, e: u64) -> Grown
                 hi: b,
             };
         }
-        a = bounded::least(a, x);
-        b = bounded::most(b, y);
-        i += 1;
+        a = a.min(x);
+        b = b.max(y);
     }
     Grown {
-        upto: i,
+        upto: count,
         lo: a,
         hi: b,
     }
@@ -85,46 +79,42 @@ pub fn covered(list: &[u64], i: usize, count: usize, s: u64, e: u64) -> bool
     if count <= i {
         return false;
     }
-    if s < list[i * 2] {
-        return false;
+    list[i * 2] <= s && e <= list[i * 2 + 1]
+}
+
+// A change that leaves count ranges.
+fn settled(count: usize) -> Changed
+    ensures { result ≡ record { count = count; changed = true } }
+{
+    Changed {
+        count,
+        changed: true,
     }
-    if list[i * 2 + 1] < e {
-        return false;
-    }
-    true
 }
 
 // Puts the numbers s..e into the set: what touches them is one range with them.
-pub fn put(list: &mut [u64], count: usize, s: u64, e: u64) -> Changed
+pub fn put(list: &mut [u64], count: usize, s: u64, e: u64) -> Result<Changed, Refusal>
     requires { (s < e) × (e ≤ 2 ^ 62) × (well_formed list.old count ≡ true) }
     ensures { done result list.new ≡ insert_into list.old count s e }
 {
     let lo = passed(list, count, s);
     if covered(list, lo, count, s, e) {
-        return Changed {
-            answer: OK,
-            count: count,
+        return Ok(Changed {
+            count,
             changed: false, // all was there
-        };
+        });
     }
-    let g = grow(list, lo, count, s, e);
-    let hi = g.upto;
-    let a = g.lo;
-    let b = g.hi;
+    let Grown {
+        upto: hi,
+        lo: a,
+        hi: b,
+    } = grow(list, lo, count, s, e);
     let n = lo + 1 + (count - hi);
     if list.len() / 2 < n {
-        return Changed {
-            answer: FULL,
-            count: 0,
-            changed: false,
-        };
+        return Err(Refusal::Full);
     }
     splice_one(list, count, lo, hi, a, b);
-    Changed {
-        answer: OK,
-        count: n,
-        changed: true,
-    }
+    Ok(settled(n))
 }
 
 // The number of a range, and the end of the one before it.
@@ -140,67 +130,50 @@ pub fn cut_at(list: &[u64], from: usize, count: usize, e: u64) -> Cut
     ensures { result ≡ cut from e 0 (read list.now from (count - from)) }
 {
     let mut b: u64 = 0;
-    let mut i = from;
-    while i < count {
+    for i in from..count {
         if e <= list[i * 2] {
             return Cut { upto: i, last: b };
         }
         b = list[i * 2 + 1];
-        i += 1;
     }
-    Cut { upto: i, last: b }
-}
-
-// A change that leaves count ranges.
-fn settled(count: usize) -> Changed
-    ensures { result ≡ record { answer = 0; count = count; changed = true } }
-{
-    Changed {
-        answer: OK,
-        count: count,
-        changed: true,
+    Cut {
+        upto: count,
+        last: b,
     }
 }
 
 // Takes the numbers s..e out of the set: a range that has numbers on both sides is split, and needs one place more.
-pub fn take_out(list: &mut [u64], count: usize, s: u64, e: u64) -> Changed
+pub fn take_out(list: &mut [u64], count: usize, s: u64, e: u64) -> Result<Changed, Refusal>
     requires { (s < e) × (e ≤ 2 ^ 62) × (well_formed list.old count ≡ true) }
     ensures { done result list.new ≡ remove_from list.old count s e }
 {
     let lo = passed(list, count, s + 1);
-    let c = cut_at(list, lo, count, e);
-    let hi = c.upto;
-    let last = c.last;
+    let Cut { upto: hi, last } = cut_at(list, lo, count, e);
     if hi <= lo {
-        return Changed {
-            answer: OK,
-            count: count,
+        return Ok(Changed {
+            count,
             changed: false,
-        };
+        });
     }
     let first = list[lo * 2];
     let kept = lo + (count - hi);
     if first < s {
         if e < last {
             if list.len() / 2 < kept + 2 {
-                return Changed {
-                    answer: FULL,
-                    count: 0,
-                    changed: false,
-                };
+                return Err(Refusal::Full);
             }
             splice_two(list, count, lo, hi, first, s, e, last);
-            return settled(kept + 2);
+            return Ok(settled(kept + 2));
         }
         splice_one(list, count, lo, hi, first, s);
-        return settled(kept + 1);
+        return Ok(settled(kept + 1));
     }
     if e < last {
         splice_one(list, count, lo, hi, e, last);
-        return settled(kept + 1);
+        return Ok(settled(kept + 1));
     }
     splice_none(list, count, lo, hi);
-    settled(kept)
+    Ok(settled(kept))
 }
 
 // Writes to out the parts in s..e of n ranges from number `from` on.
@@ -208,51 +181,40 @@ fn clip(list: &[u64], from: usize, n: usize, s: u64, e: u64, out: &mut [u64])
     requires { (from + n ≤ length list.now / 2) × (n ≤ length out.old / 2) }
     ensures { out.new ≡ over (flat (clipped s e (read list.now from n))) out.old }
 {
-    let mut k = 0;
-    while k < n {
+    for k in 0..n {
         let i = from + k;
-        let a = bounded::most(s, list[i * 2]);
-        let b = bounded::least(e, list[i * 2 + 1]);
-        out[k * 2] = a;
-        out[k * 2 + 1] = b;
-        k += 1;
+        out[k * 2] = s.max(list[i * 2]);
+        out[k * 2 + 1] = e.min(list[i * 2 + 1]);
     }
 }
 
 // Puts the numbers s..e into the set, and writes to out, ascending, the parts of s..e that were in it.
-pub fn put_reporting(list: &mut [u64], count: usize, s: u64, e: u64, out: &mut [u64]) -> Replaced
+pub fn put_reporting(
+    list: &mut [u64],
+    count: usize,
+    s: u64,
+    e: u64,
+    out: &mut [u64],
+) -> Result<Replaced, Refusal>
     requires { (s < e) × (e ≤ 2 ^ 62) × (well_formed list.old count ≡ true) }
     ensures { both result list.new out.new ≡ replace_in list.old count s e out.old }
 {
     let first = passed(list, count, s + 1);
-    let c = cut_at(list, first, count, e);
-    let end = c.upto;
-    let parts = end - first;
+    let parts = cut_at(list, first, count, e).upto - first;
     let lo = passed(list, count, s);
-    let g = grow(list, lo, count, s, e);
-    let hi = g.upto;
-    let a = g.lo;
-    let b = g.hi;
+    let Grown {
+        upto: hi,
+        lo: a,
+        hi: b,
+    } = grow(list, lo, count, s, e);
     let n = lo + 1 + (count - hi);
     if list.len() / 2 < n {
-        return Replaced {
-            answer: FULL,
-            count: 0,
-            parts: 0,
-        };
+        return Err(Refusal::Full);
     }
     if out.len() / 2 < parts {
-        return Replaced {
-            answer: FULL,
-            count: 0,
-            parts: 0,
-        };
+        return Err(Refusal::Full);
     }
     clip(list, first, parts, s, e, out);
     splice_one(list, count, lo, hi, a, b);
-    Replaced {
-        answer: OK,
-        count: n,
-        parts: parts,
-    }
+    Ok(Replaced { count: n, parts })
 }

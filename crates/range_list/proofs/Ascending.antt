@@ -1,15 +1,18 @@
 -- A list of ranges is sound exactly where its flat list is strictly ascending and the last number is at most 2 ^ 62: the bounds of the other ends follow.
 -- Assumes nothing.
-use mathlib.Core.Path.{◌≡◌, sym, ◌∙◌}
+use mathlib.Core.Path.{◌≡◌, sym, ap, ◌∙◌}
 use mathlib.Core.Bool.{Bool, true, false, ◌&&◌, and-false, and-true}
 use mathlib.Core.List.{List}
 use Prim.Native.Nat.{ℕ, zero, suc, ◌+◌, ◌-◌, ◌*◌, ◌/◌, ◌^◌, ◌≤◌, ◌<◌}
 use native.Mathlib.Omega.{arith}
-use lib.ListN.{length, get_or}
+use lib.ListN.{length, get_or, take}
+use lib.Seq.{get_or-take, length-take-le}
+use native.Mathlib.Nat.{add-zero, le_refl}
 use lib.Dec.{ltb, leb}
-use borrow.Author.Tests.{le-ltb, lt-ltb, le-leb, lt-leb}
+use borrow.Author.Tests.{le-ltb, lt-ltb, le-leb, lt-leb, ltb-true, ltb-false}
 use Rattle.range_list.specs.Ranges.{read, sound, well_formed}
 use Rattle.range_list.proofs.Sound.{by_lt}
+use Rattle.range_list.proofs.Kept.{well_formed_is}
 
 -- the k numbers of l from index i on ascend from last on, and the last of all is at most 2 ^ 62
 abbrev pub ascends : List ℕ → ℕ → ℕ → ℕ → Bool
@@ -47,16 +50,50 @@ ascends_all l (suc n) k =
     (λ y u. simp (u, le-leb 0 (get_or l 0 0) (omega arith)) (ascends_sound l 1 n (get_or l 1 0)))
     (λ y u. simp (u, and-false)))
 
--- one number more
-module _ (l : List ℕ) (i n last : ℕ) (h : i < n) where
-  pub ascends_on : last < get_or l i 0 → ascends l (i + 1) (n - (i + 1)) (get_or l i 0) ≡ ascends l i (n - i) last
-  ascends_on k = let e : n - i ≡ suc (n - (i + 1)) = omega arith in rw e (simp (lt-ltb _ _ k))
+-- where each of the k numbers after number i is above the one before it, the last decides; where one is not, no bound helps
+pub ascends_where : (l : List ℕ) (i k : ℕ) → ((j : ℕ) → i ≤ j → j < i + k → get_or l j 0 < get_or l (j + 1) 0)
+    → ascends l (i + 1) k (get_or l i 0) ≡ leb (get_or l (i + k) 0) (2 ^ 62)
+ascends_where l i zero f = rw add-zero
+ascends_where l i (suc k) f =
+    let e : i + suc k ≡ i + 1 + k = omega arith in
+    rw e (simp (lt-ltb _ _ (f i (le_refl _) (omega arith))) (ascends_where l (i + 1) k (λ j h m. f j (omega arith) (omega arith))))
 
-  pub ascends_stop : get_or l i 0 ≤ last → false ≡ ascends l i (n - i) last
-  ascends_stop k = let e : n - i ≡ suc (n - (i + 1)) = omega arith in rw e (simp (le-ltb _ _ k))
+pub ascends_not : (l : List ℕ) (i k j : ℕ) → i ≤ j → j < i + k → get_or l (j + 1) 0 ≤ get_or l j 0 → ascends l (i + 1) k (get_or l i 0) ≡ false
+ascends_not l i zero j h m g = absurd (omega arith)
+ascends_not l i (suc k) j h m g =
+    by_lt i j
+    (λ n _. let e : ascends l (i + 1 + 1) k (get_or l (i + 1) 0) ≡ false = ascends_not l (i + 1) k j (omega arith) (omega arith) g in simp (e, and-false))
+    (λ n _. let e : j ≡ i = omega arith in simp (le-ltb _ _ (rw e at g)))
 
-pub ascends_end : (l : List ℕ) (i n last : ℕ) → n ≤ i → leb last (2 ^ 62) ≡ ascends l i (n - i) last
-ascends_end l i n last h = let e : n - i ≡ 0 = omega arith in rw e
+-- a list is well formed where it has the room, its numbers ascend, and the last is at most 2 ^ 62
+module _ (l : List ℕ) (n : ℕ) (room : n ≤ length l / 2) (some : 0 < n) where
+  numbers : (j : ℕ) → j < n * 2 → get_or (take (n * 2) l) j 0 ≡ get_or l j 0
+  numbers j h = get_or-take (n * 2) l j 0 h
+
+  long : length (take (n * 2) l) ≡ n * 2
+  long = length-take-le (n * 2) l (omega arith)
+
+  -- `is_sorted_by` says true
+  pub formed_where : ((j : ℕ) (d : ℕ) → j + 1 < length (take (n * 2) l) → true ≡ ltb (get_or (take (n * 2) l) j d) (get_or (take (n * 2) l) (j + 1) d))
+      → leb (get_or (take (n * 2) l) (n * 2 - 1) 0) (2 ^ 62) ≡ well_formed l n
+  formed_where f =
+      let e : 0 + (n * 2 - 1) ≡ n * 2 - 1 = omega arith in
+      let g : (j : ℕ) → 0 ≤ j → j < 0 + (n * 2 - 1) → get_or l j 0 < get_or l (j + 1) 0 =
+      λ j _ h. let t : get_or (take (n * 2) l) j 0 < get_or (take (n * 2) l) (j + 1) 0 = ltb-true _ _ (sym (f j 0 (rw long (omega arith)))) in
+      omega (arith, numbers j (omega arith), numbers (j + 1) (omega arith)) in
+      well_formed_is l n _ room
+      (sym (ascends_all l n some) ∙ ascends_where l 0 (n * 2 - 1) g ∙ (λ k. leb (get_or l (e k) 0) (2 ^ 62))
+      ∙ sym (ap (λ (x : ℕ). leb x (2 ^ 62)) (numbers (n * 2 - 1) (omega arith))))
+
+  -- `is_sorted_by` says false
+  pub not_formed : (j : ℕ) → j + 1 < length (take (n * 2) l) → ((d : ℕ) → false ≡ ltb (get_or (take (n * 2) l) j d) (get_or (take (n * 2) l) (j + 1) d))
+      → false ≡ well_formed l n
+  not_formed j h f =
+      let m : j + 1 < n * 2 = rw long at h in
+      let g : get_or l (j + 1) 0 ≤ get_or l j 0 =
+      let t : get_or (take (n * 2) l) (j + 1) 0 ≤ get_or (take (n * 2) l) j 0 = ltb-false _ _ (sym (f 0)) in
+      omega (arith, numbers j (omega arith), numbers (j + 1) m) in
+      well_formed_is l n false room (sym (ascends_all l n some) ∙ ascends_not l 0 (n * 2 - 1) j (omega arith) (omega arith) g)
 
 pub none_formed : (l : List ℕ) (n : ℕ) → n ≡ 0 → true ≡ well_formed l n
 none_formed l n e = rw e (simp (le-leb 0 (length l / 2) (omega arith)))

@@ -1,4 +1,3 @@
-pub mod Moves
 pub mod Laws
 pub mod Sound
 pub mod Canon

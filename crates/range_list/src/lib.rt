@@ -19,56 +19,8 @@ pub fn well_formed(list: &[u64], count: usize) -> bool
     if count == 0 {
         return true;
     }
-    let n = count * 2;
-    let mut last = list[0];
-    let mut i = 1;
-    while i < n {
-        let x = list[i];
-        if x <= last {
-            return false;
-        }
-        last = x;
-        i += 1;
-    }
-    last <= LIMIT
-}
-
-// Moves n numbers from index `from` to index `to`, which is not after it.
-fn move_down(list: &mut [u64], from: usize, to: usize, n: usize)
-    requires { (to ≤ from) × (from + n ≤ length list.old) }
-    ensures { list.new ≡ paste list.old to (drop from list.old) n }
-{
-    let mut i = 0;
-    while i < n {
-        list[to + i] = list[from + i];
-        i += 1;
-    }
-}
-
-// Moves n numbers from index `from` to index `to`, which is not before it.
-fn move_up(list: &mut [u64], from: usize, to: usize, n: usize)
-    requires { (from ≤ to) × (to + n ≤ length list.old) }
-    ensures { list.new ≡ paste list.old to (drop from list.old) n }
-{
-    let mut i = n;
-    while 0 < i {
-        i -= 1;
-        list[to + i] = list[from + i];
-    }
-}
-
-// Moves n numbers from index `from` to index `to`.
-fn shift(list: &mut [u64], from: usize, to: usize, n: usize)
-    requires { (from + n ≤ length list.old) × (to + n ≤ length list.old) }
-    ensures { list.new ≡ paste list.old to (drop from list.old) n }
-{
-    if to < from {
-        move_down(list, from, to, n);
-    } else {
-        if from < to {
-            move_up(list, from, to, n);
-        }
-    }
+    let numbers = &list[..count * 2];
+    numbers.is_sorted_by(|a, b| *a < *b) && numbers[count * 2 - 1] <= LIMIT
 }
 
 // Takes the ranges lo..hi out.
@@ -76,7 +28,7 @@ pub fn splice_none(list: &mut [u64], count: usize, lo: usize, hi: usize)
     requires { (lo ≤ hi) × (hi ≤ count) × (count ≤ length list.old / 2) }
     ensures { list.new ≡ over (flat (splice (read list.old 0 count) lo hi [])) list.old }
 {
-    shift(list, hi * 2, lo * 2, (count - hi) * 2);
+    list.copy_within(hi * 2..count * 2, lo * 2);
 }
 
 // Puts the range a..b in the place of the ranges lo..hi.
@@ -84,7 +36,7 @@ pub fn splice_one(list: &mut [u64], count: usize, lo: usize, hi: usize, a: u64, 
     requires { (lo ≤ hi) × (hi ≤ count) × (count ≤ length list.old / 2) × (lo + 1 + (count - hi) ≤ length list.old / 2) }
     ensures { list.new ≡ over (flat (splice (read list.old 0 count) lo hi (record { lo = a; hi = b } ∷ []))) list.old }
 {
-    shift(list, hi * 2, lo * 2 + 2, (count - hi) * 2);
+    list.copy_within(hi * 2..count * 2, lo * 2 + 2);
     list[lo * 2] = a;
     list[lo * 2 + 1] = b;
 }
@@ -103,7 +55,7 @@ pub fn splice_two(
     requires { (lo ≤ hi) × (hi ≤ count) × (count ≤ length list.old / 2) × (lo + 2 + (count - hi) ≤ length list.old / 2) }
     ensures { list.new ≡ over (flat (splice (read list.old 0 count) lo hi (record { lo = a; hi = b } ∷ record { lo = c; hi = d } ∷ []))) list.old }
 {
-    shift(list, hi * 2, lo * 2 + 4, (count - hi) * 2);
+    list.copy_within(hi * 2..count * 2, lo * 2 + 4);
     list[lo * 2] = a;
     list[lo * 2 + 1] = b;
     list[lo * 2 + 2] = c;

@@ -2,7 +2,7 @@
 -- Assumes nothing.
 use Prim.{tt}
 use mathlib.Core.Path.{◌≡◌, refl, ap}
-use mathlib.Core.Bool.{Bool, true, false}
+use mathlib.Core.Bool.{true}
 use mathlib.Core.Logic.{◌⊎◌, inl, inr, ⊎_elim}
 use mathlib.Core.List.{List, [], ◌∷◌}
 use Prim.Native.Nat.{ℕ, ◌+◌, ◌≤◌, ◌<◌, min, max}
@@ -12,6 +12,8 @@ use Rattle.range_list.specs.Ranges.{Range, sound}
 use Rattle.range_list.proofs.Sound.{by_lt, Sound, sound_parts, sound_made, sound_weaker}
 use Rattle.range_edit.specs.Edits.{insert, remove, piece}
 use Rattle.range_many.specs.Many.{edited, edit_all, Spares, Loose, Fine, FineAll}
+use Rattle.range_many.specs.declared.Way.{Way}
+use Rattle.range_many.specs.declared.Way.TheVariants.{PutIn, TakeOut}
 use Rattle.range_many.proofs.Sizes.{insert_low, edited_sound}
 
 -- ---- a remove that leaves a number of each range
@@ -78,41 +80,41 @@ loose_insert least s e t f (r ∷ rs) h k q l m =
     (λ b v. rw (u, v) (rw (loose_touches least s e r rs a q l) (loose_wider t f r (record { lo = min s r.lo; hi = max e r.hi }) rs (λ x. omega arith) m))))
 
 -- ---- both
-fine_more : (taking : Bool) (s e : ℕ) (rs : List Range) → sound 0 rs ≡ true → Fine taking s e rs → length rs ≤ length (edited taking s e rs)
-fine_more true s e rs q f = spares_more 0 s e rs q f
-fine_more false s e rs q f = loose_more 0 s e rs q f
+fine_more : (way : Way) (s e : ℕ) (rs : List Range) → sound 0 rs ≡ true → Fine way s e rs → length rs ≤ length (edited way s e rs)
+fine_more TakeOut s e rs q f = spares_more 0 s e rs q f
+fine_more PutIn s e rs q f = loose_more 0 s e rs q f
 
-fine_edited : (taking : Bool) (s e t f : ℕ) (rs : List Range) → s < e → e < t → sound 0 rs ≡ true → Fine taking s e rs → Fine taking t f rs → Fine taking t f (edited taking s e rs)
-fine_edited true s e t f rs h k q l m = spares_remove s e t f rs h k m
-fine_edited false s e t f rs h k q l m = loose_insert 0 s e t f rs h k q l m
+fine_edited : (way : Way) (s e t f : ℕ) (rs : List Range) → s < e → e < t → sound 0 rs ≡ true → Fine way s e rs → Fine way t f rs → Fine way t f (edited way s e rs)
+fine_edited TakeOut s e t f rs h k q l m = spares_remove s e t f rs h k m
+fine_edited PutIn s e t f rs h k q l m = loose_insert 0 s e t f rs h k q l m
 
-fine_all : (taking : Bool) (s e : ℕ) (qs rs : List Range) → s < e → sound (e + 1) qs ≡ true → sound 0 rs ≡ true → Fine taking s e rs → FineAll taking qs rs → FineAll taking qs (edited taking s e rs)
-fine_all taking s e [] rs h k q l m = tt
-fine_all taking s e (r ∷ qs) rs h k q l m =
+fine_all : (way : Way) (s e : ℕ) (qs rs : List Range) → s < e → sound (e + 1) qs ≡ true → sound 0 rs ≡ true → Fine way s e rs → FineAll way qs rs → FineAll way qs (edited way s e rs)
+fine_all way s e [] rs h k q l m = tt
+fine_all way s e (r ∷ qs) rs h k q l m =
     let p : Sound (e + 1) r qs = sound_parts (e + 1) r qs k in (
-      fine_edited taking s e r.lo r.hi rs h (omega arith) q l m.0,
-      fine_all taking s e qs rs h (sound_weaker (e + 1) (r.hi + 1) qs (omega arith) p.rest) q l m.1,
+      fine_edited way s e r.lo r.hi rs h (omega arith) q l m.0,
+      fine_all way s e qs rs h (sound_weaker (e + 1) (r.hi + 1) qs (omega arith) p.rest) q l m.1,
     )
 
 -- what holds of the ranges still to come, once the first is done
-pub record Next (taking : Bool) (q : Range) (qs rs : List Range) : Type 0 where
-  pub more : length rs ≤ length (edited taking q.lo q.hi rs)
-  pub sound : sound 0 (edited taking q.lo q.hi rs) ≡ true
-  pub fine : FineAll taking qs (edited taking q.lo q.hi rs)
+pub record Next (way : Way) (q : Range) (qs rs : List Range) : Type 0 where
+  pub more : length rs ≤ length (edited way q.lo q.hi rs)
+  pub sound : sound 0 (edited way q.lo q.hi rs) ≡ true
+  pub fine : FineAll way qs (edited way q.lo q.hi rs)
 
-pub next : (taking : Bool) (least : ℕ) (q : Range) (qs rs : List Range) → sound least (q ∷ qs) ≡ true → sound 0 rs ≡ true → FineAll taking (q ∷ qs) rs → Next taking q qs rs
-next taking least q qs rs s w m =
+pub next : (way : Way) (least : ℕ) (q : Range) (qs rs : List Range) → sound least (q ∷ qs) ≡ true → sound 0 rs ≡ true → FineAll way (q ∷ qs) rs → Next way q qs rs
+next way least q qs rs s w m =
     let p : Sound least q qs = sound_parts least q qs s in
     record {
-      more = fine_more taking q.lo q.hi rs w m.0;
-      sound = edited_sound taking q.lo q.hi rs p.some p.upto w;
-      fine = fine_all taking q.lo q.hi qs rs p.some p.rest w m.0 m.1;
+      more = fine_more way q.lo q.hi rs w m.0;
+      sound = edited_sound way q.lo q.hi rs p.some p.upto w;
+      fine = fine_all way q.lo q.hi qs rs p.some p.rest w m.0 m.1;
     }
 
 -- no step leaves more ranges than the last
-pub all_more : (taking : Bool) (least : ℕ) (qs rs : List Range) → sound least qs ≡ true → sound 0 rs ≡ true → FineAll taking qs rs → length rs ≤ length (edit_all taking rs qs)
-all_more taking least [] rs s w m = omega arith
-all_more taking least (q ∷ qs) rs s w m =
+pub all_more : (way : Way) (least : ℕ) (qs rs : List Range) → sound least qs ≡ true → sound 0 rs ≡ true → FineAll way qs rs → length rs ≤ length (edit_all way rs qs)
+all_more way least [] rs s w m = omega arith
+all_more way least (q ∷ qs) rs s w m =
     let p : Sound least q qs = sound_parts least q qs s in
-    let n : Next taking q qs rs = next taking least q qs rs s w m in
-    omega (arith, n.more, all_more taking (q.hi + 1) qs (edited taking q.lo q.hi rs) p.rest n.sound n.fine)
+    let n : Next way q qs rs = next way least q qs rs s w m in
+    omega (arith, n.more, all_more way (q.hi + 1) qs (edited way q.lo q.hi rs) p.rest n.sound n.fine)

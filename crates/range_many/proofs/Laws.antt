@@ -6,9 +6,13 @@ use mathlib.Core.List.{List, [], ◌∷◌, ◌++◌, append_assoc, append-nil}
 use Prim.Native.Nat.{ℕ, ◌+◌, ◌-◌, ◌*◌, ◌/◌, ◌^◌, ◌≤◌, ◌<◌}
 use native.Mathlib.Nat.{zero-add, sub-zero}
 use native.Mathlib.Omega.{arith}
+use Rattle.std.specs.Prelude.{Result, Ok, IsOk}
+use Rattle.std.specs.Int.{from_bool}
+use Rattle.answers.specs.declared.Refusal.{Refusal}
+use Rattle.answers.specs.declared.Refusal.TheVariants.{Full}
 use lib.ListN.{length, drop, get_or, length-append, length-set}
 use lib.Dec.{ltb, leb}
-use borrow.Author.Tests.{le-ltb, lt-ltb, le-leb, lt-leb}
+use borrow.Author.Tests.{le-ltb, le-leb, lt-leb}
 use Rattle.range_list.specs.Ranges.{Range, range_at, read, flat, over, sound, well_formed}
 use Rattle.range_list.proofs.Sound.{by_lt, by_bool, Sound, sound_parts, sound_drop, Formed, formed}
 use Rattle.range_list.proofs.Laws.{read_step, read_end, read_drop, length_read, length_flat, over_range}
@@ -23,6 +27,8 @@ use Rattle.range_edit.proofs.Remove as removes
 use Rattle.range_edit.proofs.Changes.{covered_same, clear_same}
 use Rattle.range_many.specs.declared.Joint.{Joint}
 use Rattle.range_many.specs.Many.{edited, edit_all, edit_into, idle, idle_all, fewer, ties, FineAll, spared, joined_to, joined, squeezed, lies, stored, joint, join_one, Ready, merge_into}
+use Rattle.range_many.specs.declared.Way.{Way}
+use Rattle.range_many.specs.declared.Way.TheVariants.{PutIn, TakeOut}
 use Rattle.range_many.proofs.Sizes.{size_is}
 use Rattle.range_many.proofs.Fine.{Next, next, all_more}
 use Rattle.range_many.proofs.Shorter.{Squeezed, squeeze}
@@ -50,14 +56,14 @@ module _ (l : List ℕ) (n : ℕ) (w : Formed l n) where
   inside_is s e at h p b x =
       x ∙ ap (head_covers s e) (p.tail ∙ ap (λ (i : ℕ). drop i (read l 0 n)) p.is) ∙ sym (covers_head s e 0 (read l 0 n) h w.sound)
 
-  pub fewer_with_is : (s e at : ℕ) (g : Grown) → Reached l n s e at g → g.upto - at ≡ fewer false s e (read l 0 n)
+  pub fewer_with_is : (s e at : ℕ) (g : Grown) → Reached l n s e at g → g.upto - at ≡ fewer PutIn s e (read l 0 n)
   fewer_with_is s e at g r = omega (arith, r.size, r.above, r.within, length_read l 0 n)
 
-  pub fewer_without_none : (s e at : ℕ) (c : Cut) → s < e → Cutting l n s e at c → c.upto ≤ at → 1 ≡ fewer true s e (read l 0 n)
+  pub fewer_without_none : (s e at : ℕ) (c : Cut) → s < e → Cutting l n s e at c → c.upto ≤ at → 1 ≡ fewer TakeOut s e (read l 0 n)
   fewer_without_none s e at c h x k = omega (arith, ap length (clear_same s e (read l 0 n) h w.sound (x.met ∙ le-ltb at c.upto k)))
 
   pub fewer_without_some : (s e at : ℕ) (c : Cut) → s < e → Cutting l n s e at c → at < c.upto → (a b : ℕ)
-      → a ≡ cond (ltb (get_or l (at * 2) 0) s) 1 0 → b ≡ cond (ltb e c.last) 1 0 → c.upto - at + 1 - (a + b) ≡ fewer true s e (read l 0 n)
+      → a ≡ from_bool (ltb (get_or l (at * 2) 0) s) → b ≡ from_bool (ltb e c.last) → c.upto - at + 1 - (a + b) ≡ fewer TakeOut s e (read l 0 n)
   fewer_without_some s e at c h x k a b p q =
       let z = removes.size l n s e at c x k (piece (get_or l (at * 2) 0) s (piece e c.last [])) refl in
       let y = ap length (x.splits k) in
@@ -67,38 +73,36 @@ module _ (l : List ℕ) (n : ℕ) (w : Formed l n) where
       (λ _ t. by_lt e c.last (λ _ u. simp (t, u)) (λ _ u. simp (t, u)))) in
       omega (arith, z, y, v, x.above, x.within, length_read l 0 n)
 
-pub outside_is : (s e at : ℕ) (l : List ℕ) (n : ℕ) (c : Cut) → Cutting l n s e at c → leb c.upto at ≡ idle true s e (read l 0 n)
+-- one or none
+pub one_most : (b : Bool) → from_bool b ≤ 1
+one_most true = omega arith
+one_most false = omega arith
+
+pub outside_is : (s e at : ℕ) (l : List ℕ) (n : ℕ) (c : Cut) → Cutting l n s e at c → leb c.upto at ≡ idle TakeOut s e (read l 0 n)
 outside_is s e at l n c x =
     by_lt at c.upto
     (λ h t. lt-leb c.upto at h ∙ sym (ap not (x.met ∙ t)))
     (λ h t. le-leb c.upto at h ∙ sym (ap not (x.met ∙ t)))
 
--- one or none
-pub part_one : (a b : ℕ) → a < b → ◌≡◌ {A = ℕ} 1 (cond (ltb a b) 1 0)
-part_one a b h = simp (lt-ltb a b h)
-
-pub part_none : (a b : ℕ) → b ≤ a → ◌≡◌ {A = ℕ} 0 (cond (ltb a b) 1 0)
-part_none a b h = simp (le-ltb a b h)
-
 -- ---- the loops that only read
-module _ (taking : Bool) (rs : List Range) (o : List ℕ) (j n : ℕ) where
-  pub idle_stop : j < n → false ≡ idle taking (get_or o (j * 2) 0) (get_or o (j * 2 + 1) 0) rs → false ≡ idle_all taking rs (read o j (n - j))
+module _ (way : Way) (rs : List Range) (o : List ℕ) (j n : ℕ) where
+  pub idle_stop : j < n → false ≡ idle way (get_or o (j * 2) 0) (get_or o (j * 2 + 1) 0) rs → false ≡ idle_all way rs (read o j (n - j))
   idle_stop h e = rw (read_step o j n h) (rw (sym e))
 
-  pub idle_on : j < n → true ≡ idle taking (get_or o (j * 2) 0) (get_or o (j * 2 + 1) 0) rs → idle_all taking rs (read o (j + 1) (n - (j + 1))) ≡ idle_all taking rs (read o j (n - j))
+  pub idle_on : j < n → true ≡ idle way (get_or o (j * 2) 0) (get_or o (j * 2 + 1) 0) rs → idle_all way rs (read o (j + 1) (n - (j + 1))) ≡ idle_all way rs (read o j (n - j))
   idle_on h e = rw (read_step o j n h) (rw (sym e))
 
-  pub idle_end : n ≤ j → true ≡ idle_all taking rs (read o j (n - j))
+  pub idle_end : n ≤ j → true ≡ idle_all way rs (read o j (n - j))
   idle_end h = rw (read_end o j n h)
 
-  pub ties_on : j < n → ties taking rs (read o j (n - j)) ≡ fewer taking (get_or o (j * 2) 0) (get_or o (j * 2 + 1) 0) rs + ties taking rs (read o (j + 1) (n - (j + 1)))
+  pub ties_on : j < n → ties way rs (read o j (n - j)) ≡ fewer way (get_or o (j * 2) 0) (get_or o (j * 2 + 1) 0) rs + ties way rs (read o (j + 1) (n - (j + 1)))
   ties_on h = rw (read_step o j n h)
 
-  pub ties_end : n ≤ j → ties taking rs (read o j (n - j)) ≡ 0
+  pub ties_end : n ≤ j → ties way rs (read o j (n - j)) ≡ 0
   ties_end h = rw (read_end o j n h)
 
-pub ties_most : (taking : Bool) (l : List ℕ) (count : ℕ) (o : List ℕ) (n : ℕ) → Formed l count → Formed o n → ties taking (read l 0 count) (read o 0 n) ≤ count + n
-ties_most taking l count o n w v = omega (arith, size_is taking (read o 0 n) (read l 0 count) v.sound w.sound, length_read l 0 count, length_read o 0 n)
+pub ties_most : (way : Way) (l : List ℕ) (count : ℕ) (o : List ℕ) (n : ℕ) → Formed l count → Formed o n → ties way (read l 0 count) (read o 0 n) ≤ count + n
+ties_most way l count o n w v = omega (arith, size_is way (read o 0 n) (read l 0 count) v.sound w.sound, length_read l 0 count, length_read o 0 n)
 
 -- ---- spare
 pub record Sparing (l : List ℕ) (n : ℕ) (qs : List Range) (list : List ℕ) (k i : ℕ) : Type 0 where
@@ -253,121 +257,134 @@ module _ (l : List ℕ) (n : ℕ) (qs : List Range) (list : List ℕ) (k lo i : 
 
 -- ---- edit all
 -- one edit that fits, whether it changes anything or not
-edit_is : (taking : Bool) (l : List ℕ) (n s e : ℕ) → s < e → e ≤ 2 ^ 62 → Formed l n → length (edited taking s e (read l 0 n)) ≤ length l / 2
-    → ((edit_into taking l n s e).out.count ≡ length (edited taking s e (read l 0 n))) × ((edit_into taking l n s e).mem ≡ over (flat (edited taking s e (read l 0 n))) l)
+edit_is : (way : Way) (l : List ℕ) (n s e : ℕ) → s < e → e ≤ 2 ^ 62 → Formed l n → length (edited way s e (read l 0 n)) ≤ length l / 2
+    → (b : Bool) × ((edit_into way l n s e).out ≡ Ok (record { count = length (edited way s e (read l 0 n)); changed = b })) × ((edit_into way l n s e).mem ≡ over (flat (edited way s e (read l 0 n))) l)
 unfolding insert_into remove_from
-edit_is true l n s e h k w f =
+edit_is TakeOut l n s e h k w f =
     by_bool (meets s e (read l 0 n))
-    (λ t. rw t (simp (le-leb (length (remove s e (read l 0 n))) (length l / 2) f) (refl, refl)))
+    (λ t. rw t (simp (le-leb (length (remove s e (read l 0 n))) (length l / 2) f) (true, refl, refl)))
     (λ t.
     let c : remove s e (read l 0 n) ≡ read l 0 n = clear_same s e (read l 0 n) h w.sound t in
-    rw t (rw c (sym (length_read l 0 n), sym (over_same l n w.room))))
-edit_is false l n s e h k w f =
+    rw t (rw c (false, ap (λ (z : ℕ). Ok (record { count = z; changed = false })) (sym (length_read l 0 n)), sym (over_same l n w.room))))
+edit_is PutIn l n s e h k w f =
     by_bool (covers s e (read l 0 n))
     (λ t.
     let c : insert s e (read l 0 n) ≡ read l 0 n = covered_same s e (read l 0 n) h k w.sound t in
-    rw t (rw c (sym (length_read l 0 n), sym (over_same l n w.room))))
-    (λ t. rw t (simp (le-leb (length (insert s e (read l 0 n))) (length l / 2) f) (refl, refl)))
+    rw t (rw c (false, ap (λ (z : ℕ). Ok (record { count = z; changed = false })) (sym (length_read l 0 n)), sym (over_same l n w.room))))
+    (λ t. rw t (simp (le-leb (length (insert s e (read l 0 n))) (length l / 2) f) (true, refl, refl)))
 
-pub record Going (taking : Bool) (l : List ℕ) (count : ℕ) (o : List ℕ) (n : ℕ) (list : List ℕ) (k j : ℕ) : Type 0 where
+counted : {c d : Changed} → ◌≡◌ {A = Result Changed Refusal} (Ok c) (Ok d) → c.count ≡ d.count
+counted {c} {d} e = let f : c ≡ d = cc in ap (λ x. x.count) f
+
+pub record Going (way : Way) (l : List ℕ) (count : ℕ) (o : List ℕ) (n : ℕ) (list : List ℕ) (k j : ℕ) : Type 0 where
   pub at : j ≤ n
   pub formed : well_formed list k ≡ true
-  pub fine : FineAll taking (read o j (n - j)) (read list 0 k)
-  pub left : edit_all taking (read list 0 k) (read o j (n - j)) ≡ edit_all taking (read l 0 count) (read o 0 n)
+  pub fine : FineAll way (read o j (n - j)) (read list 0 k)
+  pub left : edit_all way (read list 0 k) (read o j (n - j)) ≡ edit_all way (read l 0 count) (read o 0 n)
   pub mem : list ≡ over (flat (read list 0 k)) l
   pub len : length list ≡ length l
 
-module _ (taking : Bool) (l : List ℕ) (count : ℕ) (o : List ℕ) (n : ℕ) (w : Ready taking l count o n) where
-  pub go_start : Going taking l count o n l count 0
+module _ (way : Way) (l : List ℕ) (count : ℕ) (o : List ℕ) (n : ℕ) (w : Ready way l count o n) where
+  pub go_start : Going way l count o n l count 0
   go_start =
       record {
         at = omega arith;
         formed = w.formed;
         fine = rw (sub-zero n) w.fine;
-        left = ap (λ (k : ℕ). edit_all taking (read l 0 count) (read o 0 k)) (sub-zero n);
+        left = ap (λ (k : ℕ). edit_all way (read l 0 count) (read o 0 k)) (sub-zero n);
         mem = sym (over_same l count (formed l count w.formed).room);
         len = refl;
       }
 
-  module _ (list : List ℕ) (k j : ℕ) (p : Going taking l count o n list k j) where
-    pub go_turn : j < n → (r : Changed) (m : List ℕ) → done r m ≡ edit_into taking list k (get_or o (j * 2) 0) (get_or o (j * 2 + 1) 0) → Going taking l count o n m r.count (j + 1)
+  module _ (list : List ℕ) (k j : ℕ) (p : Going way l count o n list k j) where
+    -- one more range: the edit has the room, and leaves this list
+    pub record Turn (m : List ℕ) (r : Result Changed Refusal) : Type 0 where
+      pub fits : IsOk r
+      pub goes : (c : Changed) → r ≡ Ok c → Going way l count o n m c.count (j + 1)
+
+    pub go_turn : j < n → (r : Result Changed Refusal) (m : List ℕ) → done r m ≡ edit_into way list k (get_or o (j * 2) 0) (get_or o (j * 2 + 1) 0) → Turn m r
     go_turn h r m a =
         let q = range_at_law o n (formed o n w.other) j h in
         let st = read_step o j n h in
         let so : sound 0 (range_at o j ∷ read o (j + 1) (n - (j + 1))) ≡ true = ap (sound 0) (sym st) ∙ from_at o n (formed o n w.other) j p.at in
         let v : Formed list k = formed list k p.formed in
-        let fi : FineAll taking (range_at o j ∷ read o (j + 1) (n - (j + 1))) (read list 0 k) = rw st at p.fine in
-        let x : Next taking (range_at o j) (read o (j + 1) (n - (j + 1))) (read list 0 k) = next taking 0 (range_at o j) (read o (j + 1) (n - (j + 1))) (read list 0 k) so v.sound fi in
-        let E : List Range = edited taking (get_or o (j * 2) 0) (get_or o (j * 2 + 1) 0) (read list 0 k) in
-        let lf : edit_all taking E (read o (j + 1) (n - (j + 1))) ≡ edit_all taking (read l 0 count) (read o 0 n) =
-        sym (ap (edit_all taking (read list 0 k)) st) ∙ p.left in
-        let mo : length E ≤ length (edit_all taking E (read o (j + 1) (n - (j + 1)))) = all_more taking ((range_at o j).hi + 1) (read o (j + 1) (n - (j + 1))) E q.rest x.sound x.fine in
+        let fi : FineAll way (range_at o j ∷ read o (j + 1) (n - (j + 1))) (read list 0 k) = rw st at p.fine in
+        let x : Next way (range_at o j) (read o (j + 1) (n - (j + 1))) (read list 0 k) = next way 0 (range_at o j) (read o (j + 1) (n - (j + 1))) (read list 0 k) so v.sound fi in
+        let E : List Range = edited way (get_or o (j * 2) 0) (get_or o (j * 2 + 1) 0) (read list 0 k) in
+        let lf : edit_all way E (read o (j + 1) (n - (j + 1))) ≡ edit_all way (read l 0 count) (read o 0 n) =
+        sym (ap (edit_all way (read list 0 k)) st) ∙ p.left in
+        let mo : length E ≤ length (edit_all way E (read o (j + 1) (n - (j + 1)))) = all_more way ((range_at o j).hi + 1) (read o (j + 1) (n - (j + 1))) E q.rest x.sound x.fine in
         let room : length E ≤ length list / 2 = omega (arith, mo, ap length lf, w.room, p.len) in
-        let b = edit_is taking list k (get_or o (j * 2) 0) (get_or o (j * 2 + 1) 0) q.some q.upto v room in
-        let c : r.count ≡ length E = ap (λ d. d.out.count) a ∙ b.0 in
-        let d : m ≡ over (flat E) list = ap (λ d. d.mem) a ∙ b.1 in
-        let rd : read m 0 r.count ≡ E = (λ z. read (d z) 0 (c z)) ∙ read_over E list in
+        let b = edit_is way list k (get_or o (j * 2) 0) (get_or o (j * 2 + 1) 0) q.some q.upto v room in
+        let f : r ≡ Ok (record { count = length E; changed = b.0 }) = ap (λ d. d.out) a ∙ b.1 in
+        let d : m ≡ over (flat E) list = ap (λ d. d.mem) a ∙ b.2 in
         record {
-          at = omega arith;
-          formed = (λ z. well_formed (d z) (c z)) ∙ formed_over E list room x.sound;
-          fine = rw rd x.fine;
-          left = ap (λ (z : List Range). edit_all taking z (read o (j + 1) (n - (j + 1)))) rd ∙ lf;
-          mem = d ∙ ap (over (flat E)) p.mem ∙ over_over (flat E) (flat (read list 0 k)) l (omega (arith, length_flat E, length_flat (read list 0 k), x.more))
-              ∙ ap (λ (z : List Range). over (flat z) l) (sym rd);
-          len = ap length d ∙ length_over E list room ∙ p.len;
+          fits = rw f refl;
+          goes = λ w e.
+              let c : w.count ≡ length E = counted (sym e ∙ f) in
+              let rd : read m 0 w.count ≡ E = (λ z. read (d z) 0 (c z)) ∙ read_over E list in
+              record {
+                at = omega arith;
+                formed = (λ z. well_formed (d z) (c z)) ∙ formed_over E list room x.sound;
+                fine = rw rd x.fine;
+                left = ap (λ (z : List Range). edit_all way z (read o (j + 1) (n - (j + 1)))) rd ∙ lf;
+                mem = d ∙ ap (over (flat E)) p.mem ∙ over_over (flat E) (flat (read list 0 k)) l (omega (arith, length_flat E, length_flat (read list 0 k), x.more))
+                    ∙ ap (λ (z : List Range). over (flat z) l) (sym rd);
+                len = ap length d ∙ length_over E list room ∙ p.len;
+              };
         }
 
-    pub go_end : n ≤ j → list ≡ over (flat (edit_all taking (read l 0 count) (read o 0 n))) l
+    pub go_end : n ≤ j → list ≡ over (flat (edit_all way (read l 0 count) (read o 0 n))) l
     go_end h =
-        p.mem ∙ ap (λ (z : List Range). over (flat z) l) (ap (edit_all taking (read list 0 k)) (sym (read_end o j n h)) ∙ p.left)
+        p.mem ∙ ap (λ (z : List Range). over (flat z) l) (ap (edit_all way (read list 0 k)) (sym (read_end o j n h)) ∙ p.left)
 
 -- ---- merge
-module _ (taking : Bool) (l : List ℕ) (count : ℕ) (o : List ℕ) (n : ℕ) (w : Formed l count) (v : Formed o n) where
-  pub merge_none : true ≡ idle_all taking (read l 0 count) (read o 0 n) → stay l count ≡ merge_into taking l count (read o 0 n)
+module _ (way : Way) (l : List ℕ) (count : ℕ) (o : List ℕ) (n : ℕ) (w : Formed l count) (v : Formed o n) where
+  pub merge_none : true ≡ idle_all way (read l 0 count) (read o 0 n) → stay l count ≡ merge_into way l count (read o 0 n)
   unfolding merge_into
   merge_none e = simp (sym e)
 
-  module _ (i : false ≡ idle_all taking (read l 0 count) (read o 0 n)) (t : ℕ) (e : t ≡ ties taking (read l 0 count) (read o 0 n)) where
-    result_size : length (edit_all taking (read l 0 count) (read o 0 n)) ≡ count + n - t
-    result_size = omega (arith, size_is taking (read o 0 n) (read l 0 count) v.sound w.sound, length_read l 0 count, length_read o 0 n, e)
+  module _ (i : false ≡ idle_all way (read l 0 count) (read o 0 n)) (t : ℕ) (e : t ≡ ties way (read l 0 count) (read o 0 n)) where
+    result_size : length (edit_all way (read l 0 count) (read o 0 n)) ≡ count + n - t
+    result_size = omega (arith, size_is way (read o 0 n) (read l 0 count) v.sound w.sound, length_read l 0 count, length_read o 0 n, e)
 
-    pub merge_full : length l / 2 < count + n - t → refuse 5 l ≡ merge_into taking l count (read o 0 n)
+    pub merge_full : length l / 2 < count + n - t → refuse Full l ≡ merge_into way l count (read o 0 n)
     unfolding merge_into
     merge_full h = simp (sym i, result_size, lt-leb _ _ h)
 
     module _ (h : count + n - t ≤ length l / 2) (k : ℕ) (m : List ℕ)
-        (a : (k ≡ length (squeezed taking (read o 0 n) (read l 0 count))) × (m ≡ over (flat (squeezed taking (read o 0 n) (read l 0 count))) l)) where
-      sq : Squeezed taking (read o 0 n) (read l 0 count)
-      sq = squeeze taking (read o 0 n) (read l 0 count) v.sound w.sound
+        (a : (k ≡ length (squeezed way (read o 0 n) (read l 0 count))) × (m ≡ over (flat (squeezed way (read o 0 n) (read l 0 count))) l)) where
+      sq : Squeezed way (read o 0 n) (read l 0 count)
+      sq = squeeze way (read o 0 n) (read l 0 count) v.sound w.sound
 
-      more : length (squeezed taking (read o 0 n) (read l 0 count)) ≤ length (edit_all taking (squeezed taking (read o 0 n) (read l 0 count)) (read o 0 n))
-      more = all_more taking 0 (read o 0 n) (squeezed taking (read o 0 n) (read l 0 count)) v.sound sq.sound sq.fine
+      more : length (squeezed way (read o 0 n) (read l 0 count)) ≤ length (edit_all way (squeezed way (read o 0 n) (read l 0 count)) (read o 0 n))
+      more = all_more way 0 (read o 0 n) (squeezed way (read o 0 n) (read l 0 count)) v.sound sq.sound sq.fine
 
-      again : read m 0 k ≡ squeezed taking (read o 0 n) (read l 0 count)
-      again = (λ z. read (a.1 z) 0 (a.0 z)) ∙ read_over (squeezed taking (read o 0 n) (read l 0 count)) l
+      again : read m 0 k ≡ squeezed way (read o 0 n) (read l 0 count)
+      again = (λ z. read (a.1 z) 0 (a.0 z)) ∙ read_over (squeezed way (read o 0 n) (read l 0 count)) l
 
-      room : length (squeezed taking (read o 0 n) (read l 0 count)) ≤ length l / 2
+      room : length (squeezed way (read o 0 n) (read l 0 count)) ≤ length l / 2
       room = omega (arith, more, ap length sq.same, result_size)
 
       long : length m ≡ length l
-      long = ap length a.1 ∙ length_over (squeezed taking (read o 0 n) (read l 0 count)) l room
+      long = ap length a.1 ∙ length_over (squeezed way (read o 0 n) (read l 0 count)) l room
 
-      pub merge_ready : Ready taking m k o n
+      pub merge_ready : Ready way m k o n
       merge_ready =
           record {
-            formed = (λ z. well_formed (a.1 z) (a.0 z)) ∙ formed_over (squeezed taking (read o 0 n) (read l 0 count)) l room sq.sound;
+            formed = (λ z. well_formed (a.1 z) (a.0 z)) ∙ formed_over (squeezed way (read o 0 n) (read l 0 count)) l room sq.sound;
             other = v.formed;
             fine = rw again sq.fine;
             room = rw (again, sq.same) (omega (arith, result_size, long));
           }
 
-      pub merge_done : (f : List ℕ) → f ≡ over (flat (edit_all taking (read m 0 k) (read o 0 n))) m
-          → done (record { answer = 0; count = count + n - t; changed = true }) f ≡ merge_into taking l count (read o 0 n)
+      pub merge_done : (f : List ℕ) → f ≡ over (flat (edit_all way (read m 0 k) (read o 0 n))) m
+          → done (Ok (record { count = count + n - t; changed = true })) f ≡ merge_into way l count (read o 0 n)
       unfolding merge_into
       merge_done f b =
-          let c : f ≡ over (flat (edit_all taking (read l 0 count) (read o 0 n))) l =
-          b ∙ (λ z. over (flat (edit_all taking (again z) (read o 0 n))) (a.1 z))
-          ∙ over_over (flat (edit_all taking (squeezed taking (read o 0 n) (read l 0 count)) (read o 0 n))) (flat (squeezed taking (read o 0 n) (read l 0 count))) l
-          (omega (arith, more, length_flat (edit_all taking (squeezed taking (read o 0 n) (read l 0 count)) (read o 0 n)), length_flat (squeezed taking (read o 0 n) (read l 0 count))))
+          let c : f ≡ over (flat (edit_all way (read l 0 count) (read o 0 n))) l =
+          b ∙ (λ z. over (flat (edit_all way (again z) (read o 0 n))) (a.1 z))
+          ∙ over_over (flat (edit_all way (squeezed way (read o 0 n) (read l 0 count)) (read o 0 n))) (flat (squeezed way (read o 0 n) (read l 0 count))) l
+          (omega (arith, more, length_flat (edit_all way (squeezed way (read o 0 n) (read l 0 count)) (read o 0 n)), length_flat (squeezed way (read o 0 n) (read l 0 count))))
           ∙ ap (λ (z : List Range). over (flat z) l) sq.same in
           rw c (simp (sym i, result_size, le-leb _ _ h))

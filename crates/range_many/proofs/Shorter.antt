@@ -2,7 +2,7 @@
 -- Assumes nothing.
 use Prim.{Unit, tt}
 use mathlib.Core.Path.{◌≡◌, refl, sym, ap, ◌∙◌}
-use mathlib.Core.Bool.{Bool, true, false, ◌&&◌}
+use mathlib.Core.Bool.{true, false, ◌&&◌}
 use mathlib.Core.Logic.{◌⊎◌, inl, inr, ⊎_elim}
 use mathlib.Core.List.{List, [], ◌∷◌}
 use Prim.Native.Nat.{ℕ, ◌+◌, ◌≤◌, ◌<◌}
@@ -17,21 +17,23 @@ use Rattle.range_edit.proofs.Insert.{insert_to, insert_from}
 use Rattle.range_edit.proofs.Remove.{remove_to, remove_from_law}
 use Rattle.range_edit.proofs.Changes.{covers_in}
 use Rattle.range_many.specs.Many.{edited, edit_all, Spares, Loose, FineAll, spared, joined_to, squeezed}
+use Rattle.range_many.specs.declared.Way.{Way}
+use Rattle.range_many.specs.declared.Way.TheVariants.{PutIn, TakeOut}
 use Rattle.range_many.proofs.Sizes.{edited_sound}
 
 -- ---- the numbers of all edits
-pub all_sound : (taking : Bool) (least : ℕ) (qs rs : List Range) → sound least qs ≡ true → sound 0 rs ≡ true → sound 0 (edit_all taking rs qs) ≡ true
-all_sound taking least [] rs s w = w
-all_sound taking least (q ∷ qs) rs s w =
+pub all_sound : (way : Way) (least : ℕ) (qs rs : List Range) → sound least qs ≡ true → sound 0 rs ≡ true → sound 0 (edit_all way rs qs) ≡ true
+all_sound way least [] rs s w = w
+all_sound way least (q ∷ qs) rs s w =
     let p : Sound least q qs = sound_parts least q qs s in
-    all_sound taking (q.hi + 1) qs (edited taking q.lo q.hi rs) p.rest (edited_sound taking q.lo q.hi rs p.some p.upto w)
+    all_sound way (q.hi + 1) qs (edited way q.lo q.hi rs) p.rest (edited_sound way q.lo q.hi rs p.some p.upto w)
 
-pub added_to : (x : ℕ) (qs rs : List Range) → In x (edit_all false rs qs) → In x rs ⊎ In x qs
+pub added_to : (x : ℕ) (qs rs : List Range) → In x (edit_all PutIn rs qs) → In x rs ⊎ In x qs
 added_to x [] rs h = inl h
 added_to x (q ∷ qs) rs h =
     ⊎_elim (λ k. ⊎_elim (λ j. inl j) (λ j. inr (inl j)) (insert_to x q.lo q.hi rs k)) (λ k. inr (inr k)) (added_to x qs (insert q.lo q.hi rs) h)
 
-pub added_from : (x : ℕ) (qs rs : List Range) → In x rs ⊎ In x qs → In x (edit_all false rs qs)
+pub added_from : (x : ℕ) (qs rs : List Range) → In x rs ⊎ In x qs → In x (edit_all PutIn rs qs)
 added_from x [] rs h = ⊎_elim (λ k. k) (λ k. absurd k) h
 added_from x (q ∷ qs) rs h =
     added_from x qs (insert q.lo q.hi rs)
@@ -42,7 +44,7 @@ abbrev pub Out : ℕ → List Range → Type 0
 Out x [] = Unit {0}
 Out x (q ∷ qs) = ((x < q.lo) ⊎ (q.hi ≤ x)) × Out x qs
 
-pub taken_to : (x least : ℕ) (qs rs : List Range) → sound least qs ≡ true → In x (edit_all true rs qs) → In x rs × Out x qs
+pub taken_to : (x least : ℕ) (qs rs : List Range) → sound least qs ≡ true → In x (edit_all TakeOut rs qs) → In x rs × Out x qs
 taken_to x least [] rs s h = (h, tt)
 taken_to x least (q ∷ qs) rs s h =
     let p : Sound least q qs = sound_parts least q qs s in
@@ -50,7 +52,7 @@ taken_to x least (q ∷ qs) rs s h =
     let j = remove_to x q.lo q.hi rs p.some i.0 in
     (j.0, (j.1, i.1))
 
-pub taken_from : (x : ℕ) (qs rs : List Range) → In x rs → Out x qs → In x (edit_all true rs qs)
+pub taken_from : (x : ℕ) (qs rs : List Range) → In x rs → Out x qs → In x (edit_all TakeOut rs qs)
 taken_from x [] rs h o = h
 taken_from x (q ∷ qs) rs h o = taken_from x qs (remove q.lo q.hi rs) (remove_from_law x q.lo q.hi rs h o.0) o.1
 
@@ -113,7 +115,7 @@ free_spares q qs (r ∷ rs) f =
     let i = free_spares q qs rs f.1 in
     ((u.0, i.0), (u.1, i.1))
 
-free_fine : (qs rs : List Range) → Free qs rs → FineAll true qs rs
+free_fine : (qs rs : List Range) → Free qs rs → FineAll TakeOut qs rs
 free_fine [] rs f = tt
 free_fine (q ∷ qs) rs f = let i = free_spares q qs rs f in (i.0, free_fine qs rs i.1)
 
@@ -194,33 +196,33 @@ open_loose q qs (r ∷ o ∷ rs) f =
     let i = open_loose q qs (o ∷ rs) f.1 in
     ((u.0, i.0), (u.1, i.1))
 
-open_fine : (qs rs : List Range) → Open qs rs → FineAll false qs rs
+open_fine : (qs rs : List Range) → Open qs rs → FineAll PutIn qs rs
 open_fine [] rs f = tt
 open_fine (q ∷ qs) rs f = let i = open_loose q qs rs f in (i.0, open_fine qs rs i.1)
 
 -- ---- both
-pub record Squeezed (taking : Bool) (qs rs : List Range) : Type 0 where
-  pub sound : sound 0 (squeezed taking qs rs) ≡ true
-  pub fine : FineAll taking qs (squeezed taking qs rs)
-  pub same : edit_all taking (squeezed taking qs rs) qs ≡ edit_all taking rs qs
+pub record Squeezed (way : Way) (qs rs : List Range) : Type 0 where
+  pub sound : sound 0 (squeezed way qs rs) ≡ true
+  pub fine : FineAll way qs (squeezed way qs rs)
+  pub same : edit_all way (squeezed way qs rs) qs ≡ edit_all way rs qs
 
-pub squeeze : (taking : Bool) (qs rs : List Range) → sound 0 qs ≡ true → sound 0 rs ≡ true → Squeezed taking qs rs
-squeeze true qs rs q w =
+pub squeeze : (way : Way) (qs rs : List Range) → sound 0 qs ≡ true → sound 0 rs ≡ true → Squeezed way qs rs
+squeeze TakeOut qs rs q w =
     let s = spared_sound 0 qs rs w in
     record {
       sound = s;
       fine = free_fine qs (spared qs rs) (spared_free qs rs);
-      same = canonical 0 0 (edit_all true (spared qs rs) qs) (edit_all true rs qs) (all_sound true 0 qs (spared qs rs) q s) (all_sound true 0 qs rs q w)
+      same = canonical 0 0 (edit_all TakeOut (spared qs rs) qs) (edit_all TakeOut rs qs) (all_sound TakeOut 0 qs (spared qs rs) q s) (all_sound TakeOut 0 qs rs q w)
           (λ x h. let i = taken_to x 0 qs (spared qs rs) q h in taken_from x qs rs (spared_in x qs rs i.0) i.1)
           (λ x h. let i = taken_to x 0 qs rs q h in taken_from x qs (spared qs rs) (spared_out x qs rs i.1 i.0) i.1);
     }
-squeeze false qs [] q w = record { sound = refl; fine = open_fine qs [] tt; same = refl }
-squeeze false qs (r ∷ rs) q w =
+squeeze PutIn qs [] q w = record { sound = refl; fine = open_fine qs [] tt; same = refl }
+squeeze PutIn qs (r ∷ rs) q w =
     let s = joined_sound 0 qs r rs w in
     record {
       sound = s;
       fine = open_fine qs (joined_to qs r rs) (joined_open qs r rs);
-      same = canonical 0 0 (edit_all false (joined_to qs r rs) qs) (edit_all false (r ∷ rs) qs) (all_sound false 0 qs (joined_to qs r rs) q s) (all_sound false 0 qs (r ∷ rs) q w)
+      same = canonical 0 0 (edit_all PutIn (joined_to qs r rs) qs) (edit_all PutIn (r ∷ rs) qs) (all_sound PutIn 0 qs (joined_to qs r rs) q s) (all_sound PutIn 0 qs (r ∷ rs) q w)
           (λ x h. added_from x qs (r ∷ rs) (⊎_elim (λ k. joined_in x qs r rs k) (λ k. inr k) (added_to x qs (joined_to qs r rs) h)))
           (λ x h. added_from x qs (joined_to qs r rs) (⊎_elim (λ k. inl (joined_from x 0 qs r rs w k)) (λ k. inr k) (added_to x qs (r ∷ rs) h)));
     }

@@ -2,7 +2,7 @@
 -- Assumes nothing.
 use Prim.{Unit, tt}
 use mathlib.Core.Path.{◌≡◌, refl, ap}
-use mathlib.Core.Bool.{Bool, true, false, cond}
+use mathlib.Core.Bool.{true, cond}
 use mathlib.Core.List.{List, [], ◌∷◌}
 use Prim.Native.Nat.{ℕ, ◌+◌, ◌^◌, ◌≤◌, ◌<◌, min, max}
 use native.Mathlib.Nat.{max-eq_right}
@@ -16,6 +16,8 @@ use Rattle.range_edit.specs.Edits.{insert, remove, piece}
 use Rattle.range_edit.proofs.Insert.{insert_sound}
 use Rattle.range_edit.proofs.Remove.{remove_sound, remove_after}
 use Rattle.range_many.specs.Many.{edited, edit_all, ties}
+use Rattle.range_many.specs.declared.Way.{Way}
+use Rattle.range_many.specs.declared.Way.TheVariants.{PutIn, TakeOut}
 
 -- ---- an insert
 -- where all starts above, a range is put in front
@@ -131,48 +133,48 @@ remove_length least s e (r ∷ rs) h q =
     (λ b v. let w : pieces s e r ≡ 0 = simp (u, v) in omega arith))
 
 -- ---- both
-pub edited_sound : (taking : Bool) (s e : ℕ) (rs : List Range) → s < e → e ≤ 2 ^ 62 → sound 0 rs ≡ true → sound 0 (edited taking s e rs) ≡ true
-edited_sound true s e rs h k q = remove_sound 0 s e rs h q
-edited_sound false s e rs h k q = insert_sound 0 s e rs (omega arith) h k q
+pub edited_sound : (way : Way) (s e : ℕ) (rs : List Range) → s < e → e ≤ 2 ^ 62 → sound 0 rs ≡ true → sound 0 (edited way s e rs) ≡ true
+edited_sound TakeOut s e rs h k q = remove_sound 0 s e rs h q
+edited_sound PutIn s e rs h k q = insert_sound 0 s e rs (omega arith) h k q
 
-pub edited_length : (taking : Bool) (s e : ℕ) (rs : List Range) → s < e → sound 0 rs ≡ true → length (edited taking s e rs) ≤ length rs + 1
-edited_length true s e rs h q = remove_length 0 s e rs h q
-edited_length false s e rs h q = omega (arith, insert_size 0 s e rs q)
+pub edited_length : (way : Way) (s e : ℕ) (rs : List Range) → s < e → sound 0 rs ≡ true → length (edited way s e rs) ≤ length rs + 1
+edited_length TakeOut s e rs h q = remove_length 0 s e rs h q
+edited_length PutIn s e rs h q = omega (arith, insert_size 0 s e rs q)
 
-modular : (taking : Bool) (s e t f : ℕ) (rs : List Range) → s < e → e ≤ 2 ^ 62 → e < t → t < f → sound 0 rs ≡ true
-    → length (edited taking t f (edited taking s e rs)) + length rs ≡ length (edited taking t f rs) + length (edited taking s e rs)
-modular true s e t f rs h b k m q = remove_modular 0 s e t f rs h k m q
-modular false s e t f rs h b k m q =
+modular : (way : Way) (s e t f : ℕ) (rs : List Range) → s < e → e ≤ 2 ^ 62 → e < t → t < f → sound 0 rs ≡ true
+    → length (edited way t f (edited way s e rs)) + length rs ≡ length (edited way t f rs) + length (edited way s e rs)
+modular TakeOut s e t f rs h b k m q = remove_modular 0 s e t f rs h k m q
+modular PutIn s e t f rs h b k m q =
     omega (arith, insert_size 0 s e rs q, insert_size 0 t f rs q, insert_size 0 t f (insert s e rs) (insert_sound 0 s e rs (omega arith) h b q), touching_insert 0 s e t f rs h k m q)
 
 -- each of qs changes the size of as as it changes that of rs
-abbrev Alike : Bool → List Range → List Range → List Range → Type 0
-Alike taking [] ps rs = Unit {0}
-Alike taking (q ∷ qs) ps rs =
-    (length (edited taking q.lo q.hi ps) + length rs ≡ length (edited taking q.lo q.hi rs) + length ps) × Alike taking qs ps rs
+abbrev Alike : Way → List Range → List Range → List Range → Type 0
+Alike way [] ps rs = Unit {0}
+Alike way (q ∷ qs) ps rs =
+    (length (edited way q.lo q.hi ps) + length rs ≡ length (edited way q.lo q.hi rs) + length ps) × Alike way qs ps rs
 
-alike_self : (taking : Bool) (qs rs : List Range) → Alike taking qs rs rs
-alike_self taking [] rs = tt
-alike_self taking (q ∷ qs) rs = (refl, alike_self taking qs rs)
+alike_self : (way : Way) (qs rs : List Range) → Alike way qs rs rs
+alike_self way [] rs = tt
+alike_self way (q ∷ qs) rs = (refl, alike_self way qs rs)
 
-alike_edited : (taking : Bool) (s e : ℕ) (qs ps rs : List Range) → s < e → e ≤ 2 ^ 62 → sound (e + 1) qs ≡ true → sound 0 ps ≡ true
-    → Alike taking qs ps rs → Alike taking qs (edited taking s e ps) rs
-alike_edited taking s e [] ps rs h k q w a = tt
-alike_edited taking s e (r ∷ qs) ps rs h k q w a =
+alike_edited : (way : Way) (s e : ℕ) (qs ps rs : List Range) → s < e → e ≤ 2 ^ 62 → sound (e + 1) qs ≡ true → sound 0 ps ≡ true
+    → Alike way qs ps rs → Alike way qs (edited way s e ps) rs
+alike_edited way s e [] ps rs h k q w a = tt
+alike_edited way s e (r ∷ qs) ps rs h k q w a =
     let p : Sound (e + 1) r qs = sound_parts (e + 1) r qs q in (
-      omega (arith, a.0, modular taking s e r.lo r.hi ps h k (omega arith) p.some w),
-      alike_edited taking s e qs ps rs h k (sound_weaker (e + 1) (r.hi + 1) qs (omega arith) p.rest) w a.1,
+      omega (arith, a.0, modular way s e r.lo r.hi ps h k (omega arith) p.some w),
+      alike_edited way s e qs ps rs h k (sound_weaker (e + 1) (r.hi + 1) qs (omega arith) p.rest) w a.1,
     )
 
-sizes : (taking : Bool) (least : ℕ) (qs ps rs : List Range) → sound least qs ≡ true → sound 0 ps ≡ true → sound 0 rs ≡ true → Alike taking qs ps rs
-    → length (edit_all taking ps qs) + ties taking rs qs ≡ length ps + length qs
-sizes taking least [] ps rs q w v a = omega arith
-sizes taking least (r ∷ qs) ps rs q w v a =
+sizes : (way : Way) (least : ℕ) (qs ps rs : List Range) → sound least qs ≡ true → sound 0 ps ≡ true → sound 0 rs ≡ true → Alike way qs ps rs
+    → length (edit_all way ps qs) + ties way rs qs ≡ length ps + length qs
+sizes way least [] ps rs q w v a = omega arith
+sizes way least (r ∷ qs) ps rs q w v a =
     let p : Sound least r qs = sound_parts least r qs q in
-    let i = sizes taking (r.hi + 1) qs (edited taking r.lo r.hi ps) rs p.rest (edited_sound taking r.lo r.hi ps p.some p.upto w) v
-    (alike_edited taking r.lo r.hi qs ps rs p.some p.upto p.rest w a.1) in
-    omega (arith, i, a.0, edited_length taking r.lo r.hi rs p.some v)
+    let i = sizes way (r.hi + 1) qs (edited way r.lo r.hi ps) rs p.rest (edited_sound way r.lo r.hi ps p.some p.upto w) v
+    (alike_edited way r.lo r.hi qs ps rs p.some p.upto p.rest w a.1) in
+    omega (arith, i, a.0, edited_length way r.lo r.hi rs p.some v)
 
 -- the size of the result, found without making it
-pub size_is : (taking : Bool) (qs rs : List Range) → sound 0 qs ≡ true → sound 0 rs ≡ true → length (edit_all taking rs qs) + ties taking rs qs ≡ length rs + length qs
-size_is taking qs rs q w = sizes taking 0 qs rs rs q w w (alike_self taking qs rs)
+pub size_is : (way : Way) (qs rs : List Range) → sound 0 qs ≡ true → sound 0 rs ≡ true → length (edit_all way rs qs) + ties way rs qs ≡ length rs + length qs
+size_is way qs rs q w = sizes way 0 qs rs rs q w w (alike_self way qs rs)

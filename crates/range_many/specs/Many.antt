@@ -1,49 +1,51 @@
--- A second set put into a set, or taken out of it (01, Range set: add, subtract), range by range, as the Rust does. `taking` says which: true takes out.
+-- A second set put into a set, or taken out of it (01, Range set: add, subtract), range by range, as the Rust does. `Way` says which.
 -- Assumes nothing.
-use Rattle.std.specs.Prelude.{ℕ, ◌+◌, ◌-◌, ◌*◌, ◌/◌, ◌≤◌, ◌<◌, ◌≡◌, Bool, true, false, cond, not, ◌&&◌, ◌⊎◌, List, [], ◌∷◌, length, get_or, set}
+use Rattle.std.specs.Prelude.{ℕ, ◌+◌, ◌-◌, ◌*◌, ◌/◌, ◌≤◌, ◌<◌, ◌≡◌, Bool, true, cond, not, ◌&&◌, ◌⊎◌, List, [], ◌∷◌, length, get_or, set}
 use Prim.{Unit}
 use Rattle.range_list.specs.Ranges.{Range, read, well_formed}
 use Rattle.range_many.specs.declared.Joint.{Joint}
+use Rattle.range_many.specs.declared.Way.{Way}
+use Rattle.range_many.specs.declared.Way.TheVariants.{PutIn, TakeOut}
 use Rattle.range_edit.specs.Edits.{insert, remove, covers, meets, Done, stay, settle, insert_into, remove_from}
 
 -- rs with s..e put in, or taken out
-abbrev pub edited : Bool → ℕ → ℕ → List Range → List Range
-edited true s e rs = remove s e rs
-edited false s e rs = insert s e rs
+abbrev pub edited : Way → ℕ → ℕ → List Range → List Range
+edited TakeOut s e rs = remove s e rs
+edited PutIn s e rs = insert s e rs
 
 -- rs with each range of qs put in, or taken out
-abbrev pub edit_all : Bool → List Range → List Range → List Range
-edit_all taking rs [] = rs
-edit_all taking rs (q ∷ qs) = edit_all taking (edited taking q.lo q.hi rs) qs
+abbrev pub edit_all : Way → List Range → List Range → List Range
+edit_all way rs [] = rs
+edit_all way rs (q ∷ qs) = edit_all way (edited way q.lo q.hi rs) qs
 
 -- what one range put in, or taken out, does
-abbrev pub edit_into : Bool → List ℕ → ℕ → ℕ → ℕ → Done
-edit_into true l n s e = remove_from l n s e
-edit_into false l n s e = insert_into l n s e
+abbrev pub edit_into : Way → List ℕ → ℕ → ℕ → ℕ → Done
+edit_into TakeOut l n s e = remove_from l n s e
+edit_into PutIn l n s e = insert_into l n s e
 
 -- s..e changes nothing of rs: all of it is there already, or nothing of it is there
-abbrev pub idle : Bool → ℕ → ℕ → List Range → Bool
-idle true s e rs = not (meets s e rs)
-idle false s e rs = covers s e rs
+abbrev pub idle : Way → ℕ → ℕ → List Range → Bool
+idle TakeOut s e rs = not (meets s e rs)
+idle PutIn s e rs = covers s e rs
 
 -- no range of qs changes anything of rs
-abbrev pub idle_all : Bool → List Range → List Range → Bool
-idle_all taking rs [] = true
-idle_all taking rs (q ∷ qs) = idle taking q.lo q.hi rs && idle_all taking rs qs
+abbrev pub idle_all : Way → List Range → List Range → Bool
+idle_all way rs [] = true
+idle_all way rs (q ∷ qs) = idle way q.lo q.hi rs && idle_all way rs qs
 
 -- the ranges qs put into the n ranges of l, or taken out of them
-unfoldable pub merge_into : Bool → List ℕ → ℕ → List Range → Done
-merge_into taking l n qs = cond (idle_all taking (read l 0 n) qs) (stay l n) (settle (edit_all taking (read l 0 n) qs) l)
+unfoldable pub merge_into : Way → List ℕ → ℕ → List Range → Done
+merge_into way l n qs = cond (idle_all way (read l 0 n) qs) (stay l n) (settle (edit_all way (read l 0 n) qs) l)
 
 -- ---- what the code finds on its way
 
 -- how many ranges fewer than one more s..e leaves, alone; and the sum of that over qs
-abbrev pub fewer : Bool → ℕ → ℕ → List Range → ℕ
-fewer taking s e rs = length rs + 1 - length (edited taking s e rs)
+abbrev pub fewer : Way → ℕ → ℕ → List Range → ℕ
+fewer way s e rs = length rs + 1 - length (edited way s e rs)
 
-abbrev pub ties : Bool → List Range → List Range → ℕ
-ties taking rs [] = 0
-ties taking rs (q ∷ qs) = fewer taking q.lo q.hi rs + ties taking rs qs
+abbrev pub ties : Way → List Range → List Range → ℕ
+ties way rs [] = 0
+ties way rs (q ∷ qs) = fewer way q.lo q.hi rs + ties way rs qs
 
 -- s..e leaves a number of each range of rs; s..e does not reach from one range of rs to the next
 abbrev pub Spares : ℕ → ℕ → List Range → Type 0
@@ -56,13 +58,13 @@ Loose s e (r ∷ []) = Unit {0}
 Loose s e (r ∷ q ∷ rs) = ((r.hi < s) ⊎ (e < q.lo)) × Loose s e (q ∷ rs)
 
 -- taking s..e out, or putting it in, leaves no fewer ranges
-abbrev pub Fine : Bool → ℕ → ℕ → List Range → Type 0
-Fine true s e rs = Spares s e rs
-Fine false s e rs = Loose s e rs
+abbrev pub Fine : Way → ℕ → ℕ → List Range → Type 0
+Fine TakeOut s e rs = Spares s e rs
+Fine PutIn s e rs = Loose s e rs
 
-abbrev pub FineAll : Bool → List Range → List Range → Type 0
-FineAll taking [] rs = Unit {0}
-FineAll taking (q ∷ qs) rs = Fine taking q.lo q.hi rs × FineAll taking qs rs
+abbrev pub FineAll : Way → List Range → List Range → Type 0
+FineAll way [] rs = Unit {0}
+FineAll way (q ∷ qs) rs = Fine way q.lo q.hi rs × FineAll way qs rs
 
 -- rs without the ranges that lie in one of qs
 abbrev pub spared : List Range → List Range → List Range
@@ -86,9 +88,9 @@ joined qs [] = []
 joined qs (r ∷ rs) = joined_to qs r rs
 
 -- rs with what qs makes fewer: the first step, after which the ranges only become more
-abbrev pub squeezed : Bool → List Range → List Range → List Range
-squeezed true qs rs = spared qs rs
-squeezed false qs rs = joined qs rs
+abbrev pub squeezed : Way → List Range → List Range → List Range
+squeezed TakeOut qs rs = spared qs rs
+squeezed PutIn qs rs = joined qs rs
 
 -- what a turn of `join` leaves: the growing range starts at lo and ends where range number i - 1 of l does; it is stored at k unless one of qs fills the gap
 pub record JoinedOne : Type 0 where
@@ -105,8 +107,8 @@ join_one qs l k lo i =
     (joint (record { k = k + 1; lo = get_or l (i * 2) 0 }) (stored l k lo (get_or l (i * 2 - 1) 0)))
 
 -- both lists are in good form, none of the second leaves fewer ranges, and there is room for the result
-pub record Ready (taking : Bool) (l : List ℕ) (count : ℕ) (o : List ℕ) (n : ℕ) : Type 0 where
+pub record Ready (way : Way) (l : List ℕ) (count : ℕ) (o : List ℕ) (n : ℕ) : Type 0 where
   pub formed : well_formed l count ≡ true
   pub other : well_formed o n ≡ true
-  pub fine : FineAll taking (read o 0 n) (read l 0 count)
-  pub room : length (edit_all taking (read l 0 count) (read o 0 n)) ≤ length l / 2
+  pub fine : FineAll way (read o 0 n) (read l 0 count)
+  pub room : length (edit_all way (read l 0 count) (read o 0 n)) ≤ length l / 2

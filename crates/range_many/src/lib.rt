@@ -1,5 +1,5 @@
 // A second set put into a set, or taken out of it, in place (01, Range set: add, subtract).
-// Inner functions: both lists are in good form. `taking` says which: true takes out. `range_set` tests its arguments, and is what others call.
+// Inner functions: both lists are in good form. `Way` says which. `range_set` tests its arguments, and is what others call.
 //
 // A set on the way may need more places than the result, so the ranges are not put in or taken out one after another from the start. First the size of
 // the result is found, without writing. Then what makes the list shorter is done, each place written once from the front: ranges that lie in one of the
@@ -7,13 +7,21 @@
 // is ever written.
 #![tactic(auto)]
 
-ghost use Rattle.std.specs.Prelude.{◌≡◌, true, false, cond, ℕ, ◌+◌, ◌-◌, ◌*◌, ◌/◌, ◌^◌, ◌<◌, ◌≤◌, length, get_or, set, ltb};
+ghost use Rattle.std.specs.Prelude.{◌≡◌, true, cond, ℕ, ◌+◌, ◌-◌, ◌*◌, ◌/◌, ◌^◌, ◌<◌, ◌≤◌, length, get_or, set, ltb};
 ghost use Rattle.range_list.specs.Ranges.{read, flat, over, well_formed};
 ghost use Rattle.range_edit.specs.Edits.{done, covers};
+ghost use Rattle.range_many.specs.declared.Way.TheVariants.{PutIn, TakeOut};
 ghost use Rattle.range_many.specs.Many.{idle, idle_all, fewer, ties, edit_into, edit_all, FineAll, squeezed, spared, joined, lies, stored, joint, join_one, Ready, merge_into};
 
-use answers::{FULL, OK};
-use range_edit::{Changed, covered, cut_at, grow, passed, put, take_out};
+use answers::Refusal;
+use range_edit::{Changed, Cut, covered, cut_at, grow, passed, put, take_out};
+
+// What is done with the numbers of the second set.
+#[derive(Clone, Copy, Debug, PartialEq, Eq)]
+pub enum Way {
+    PutIn,
+    TakeOut,
+}
 
 // Whether one range has all of s..e.
 fn inside(list: &[u64], count: usize, s: u64, e: u64) -> bool
@@ -27,96 +35,79 @@ fn inside(list: &[u64], count: usize, s: u64, e: u64) -> bool
 // Whether no range has a number of s..e.
 fn outside(list: &[u64], count: usize, s: u64, e: u64) -> bool
     requires { (s < e) × (e ≤ 2 ^ 62) × (well_formed list.now count ≡ true) }
-    ensures { result ≡ idle true s e (read list.now 0 count) }
+    ensures { result ≡ idle TakeOut s e (read list.now 0 count) }
 {
     let at = passed(list, count, s + 1);
-    let c = cut_at(list, at, count, e);
-    let upto = c.upto;
-    upto <= at
+    cut_at(list, at, count, e).upto <= at
 }
 
 // Whether s..e changes nothing.
-fn idle_one(list: &[u64], count: usize, s: u64, e: u64, taking: bool) -> bool
+fn idle_one(list: &[u64], count: usize, s: u64, e: u64, way: Way) -> bool
     requires { (s < e) × (e ≤ 2 ^ 62) × (well_formed list.now count ≡ true) }
-    ensures { result ≡ idle taking s e (read list.now 0 count) }
+    ensures { result ≡ idle way s e (read list.now 0 count) }
 {
-    if taking {
-        return outside(list, count, s, e);
+    match way {
+        Way::PutIn => inside(list, count, s, e),
+        Way::TakeOut => outside(list, count, s, e),
     }
-    inside(list, count, s, e)
 }
 
 // Whether no range of other changes anything.
-fn idle_all(list: &[u64], count: usize, other: &[u64], n: usize, taking: bool) -> bool
+fn idle_all(list: &[u64], count: usize, other: &[u64], n: usize, way: Way) -> bool
     requires { (well_formed list.now count ≡ true) × (well_formed other.now n ≡ true) }
-    ensures { result ≡ idle_all taking (read list.now 0 count) (read other.now 0 n) }
+    ensures { result ≡ idle_all way (read list.now 0 count) (read other.now 0 n) }
 {
-    let mut j = 0;
-    while j < n {
-        if !idle_one(list, count, other[j * 2], other[j * 2 + 1], taking) {
+    for j in 0..n {
+        if !idle_one(list, count, other[j * 2], other[j * 2 + 1], way) {
             return false;
         }
-        j += 1;
     }
     true
-}
-
-// One if a is below b, else none.
-fn part(a: u64, b: u64) -> usize
-    ensures { (result ≡ cond (ltb a b) 1 0) × (result ≤ 1) }
-{
-    if a < b { 1 } else { 0 }
 }
 
 // How many ranges fewer than one more s..e put in leaves.
 fn fewer_with(list: &[u64], count: usize, s: u64, e: u64) -> usize
     requires { (s < e) × (e ≤ 2 ^ 62) × (well_formed list.now count ≡ true) }
-    ensures { result ≡ fewer false s e (read list.now 0 count) }
+    ensures { result ≡ fewer PutIn s e (read list.now 0 count) }
 {
     let at = passed(list, count, s);
-    let g = grow(list, at, count, s, e);
-    let upto = g.upto;
-    upto - at
+    grow(list, at, count, s, e).upto - at
 }
 
 // How many ranges fewer than one more s..e taken out leaves.
 fn fewer_without(list: &[u64], count: usize, s: u64, e: u64) -> usize
     requires { (s < e) × (e ≤ 2 ^ 62) × (well_formed list.now count ≡ true) }
-    ensures { result ≡ fewer true s e (read list.now 0 count) }
+    ensures { result ≡ fewer TakeOut s e (read list.now 0 count) }
 {
     let at = passed(list, count, s + 1);
-    let c = cut_at(list, at, count, e);
-    let upto = c.upto;
-    let last = c.last;
+    let Cut { upto, last } = cut_at(list, at, count, e);
     if upto <= at {
         return 1;
     }
-    let left = part(list[at * 2], s);
-    let right = part(e, last);
+    let left = usize::from(list[at * 2] < s);
+    let right = usize::from(e < last);
     upto - at + 1 - (left + right)
 }
 
 // How many ranges fewer than one more s..e leaves.
-fn fewer_one(list: &[u64], count: usize, s: u64, e: u64, taking: bool) -> usize
+fn fewer_one(list: &[u64], count: usize, s: u64, e: u64, way: Way) -> usize
     requires { (s < e) × (e ≤ 2 ^ 62) × (well_formed list.now count ≡ true) }
-    ensures { result ≡ fewer taking s e (read list.now 0 count) }
+    ensures { result ≡ fewer way s e (read list.now 0 count) }
 {
-    if taking {
-        return fewer_without(list, count, s, e);
+    match way {
+        Way::PutIn => fewer_with(list, count, s, e),
+        Way::TakeOut => fewer_without(list, count, s, e),
     }
-    fewer_with(list, count, s, e)
 }
 
 // The sum of that over the ranges of other: so many fewer than both together the result has.
-fn fewer_all(list: &[u64], count: usize, other: &[u64], n: usize, taking: bool) -> usize
+fn fewer_all(list: &[u64], count: usize, other: &[u64], n: usize, way: Way) -> usize
     requires { (well_formed list.now count ≡ true) × (well_formed other.now n ≡ true) }
-    ensures { result ≡ ties taking (read list.now 0 count) (read other.now 0 n) }
+    ensures { result ≡ ties way (read list.now 0 count) (read other.now 0 n) }
 {
     let mut sum = 0;
-    let mut j = 0;
-    while j < n {
-        sum += fewer_one(list, count, other[j * 2], other[j * 2 + 1], taking);
-        j += 1;
+    for j in 0..n {
+        sum += fewer_one(list, count, other[j * 2], other[j * 2 + 1], way);
     }
     sum
 }
@@ -142,10 +133,8 @@ fn spare(list: &mut [u64], count: usize, other: &[u64], n: usize) -> usize
     ensures { (result ≡ length (spared (read other.now 0 n) (read list.old 0 count))) × (list.new ≡ over (flat (spared (read other.now 0 n) (read list.old 0 count))) list.old) }
 {
     let mut k = 0;
-    let mut i = 0;
-    while i < count {
+    for i in 0..count {
         k = spare_one(list, k, i, other, n);
-        i += 1;
     }
     k
 }
@@ -165,7 +154,7 @@ fn join_one(list: &mut [u64], k: usize, lo: u64, i: usize, other: &[u64], n: usi
     let hi = list[i * 2 - 1];
     let s = list[i * 2];
     if inside(other, n, hi, s) {
-        return Joint { k: k, lo: lo };
+        return Joint { k, lo };
     }
     list[k * 2] = lo;
     list[k * 2 + 1] = hi;
@@ -182,12 +171,10 @@ fn join(list: &mut [u64], count: usize, other: &[u64], n: usize) -> usize
     }
     let mut k = 0;
     let mut lo = list[0];
-    let mut i = 1;
-    while i < count {
+    for i in 1..count {
         let g = join_one(list, k, lo, i, other, n);
         k = g.k;
         lo = g.lo;
-        i += 1;
     }
     let hi = list[count * 2 - 1];
     list[k * 2] = lo;
@@ -196,66 +183,65 @@ fn join(list: &mut [u64], count: usize, other: &[u64], n: usize) -> usize
 }
 
 // Does what makes the list shorter; how many ranges are left.
-fn squeeze(list: &mut [u64], count: usize, other: &[u64], n: usize, taking: bool) -> usize
+fn squeeze(list: &mut [u64], count: usize, other: &[u64], n: usize, way: Way) -> usize
     requires { (well_formed list.old count ≡ true) × (well_formed other.now n ≡ true) }
-    ensures { (result ≡ length (squeezed taking (read other.now 0 n) (read list.old 0 count))) × (list.new ≡ over (flat (squeezed taking (read other.now 0 n) (read list.old 0 count))) list.old) }
+    ensures { (result ≡ length (squeezed way (read other.now 0 n) (read list.old 0 count))) × (list.new ≡ over (flat (squeezed way (read other.now 0 n) (read list.old 0 count))) list.old) }
 {
-    if taking {
-        return spare(list, count, other, n);
+    match way {
+        Way::PutIn => join(list, count, other, n),
+        Way::TakeOut => spare(list, count, other, n),
     }
-    join(list, count, other, n)
 }
 
 // Puts s..e in, or takes it out.
-fn edit(list: &mut [u64], count: usize, s: u64, e: u64, taking: bool) -> Changed
+fn edit(list: &mut [u64], count: usize, s: u64, e: u64, way: Way) -> Result<Changed, Refusal>
     requires { (s < e) × (e ≤ 2 ^ 62) × (well_formed list.old count ≡ true) }
-    ensures { done result list.new ≡ edit_into taking list.old count s e }
+    ensures { done result list.new ≡ edit_into way list.old count s e }
 {
-    if taking {
-        return take_out(list, count, s, e);
+    match way {
+        Way::PutIn => put(list, count, s, e),
+        Way::TakeOut => take_out(list, count, s, e),
     }
-    put(list, count, s, e)
 }
 
 // Puts each range of other in, or takes it out, where none leaves fewer ranges.
-fn edit_all(list: &mut [u64], count: usize, other: &[u64], n: usize, taking: bool)
-    requires { Ready taking list.old count other.now n }
-    ensures { list.new ≡ over (flat (edit_all taking (read list.old 0 count) (read other.now 0 n))) list.old }
+fn edit_all(list: &mut [u64], count: usize, other: &[u64], n: usize, way: Way)
+    requires { Ready way list.old count other.now n }
+    ensures { list.new ≡ over (flat (edit_all way (read list.old 0 count) (read other.now 0 n))) list.old }
 {
     let mut k = count;
-    let mut j = 0;
-    while j < n {
-        let r = edit(list, k, other[j * 2], other[j * 2 + 1], taking);
-        k = r.count;
-        j += 1;
+    for j in 0..n {
+        k = edit(list, k, other[j * 2], other[j * 2 + 1], way)
+            .unwrap()
+            .count;
     }
 }
 
-// Puts the set of other into the set, or takes it out; FULL, with nothing written, exactly where the result has more ranges than the list has places.
-pub fn merge(list: &mut [u64], count: usize, other: &[u64], n: usize, taking: bool) -> Changed
+// Puts the set of other into the set, or takes it out; Full, with nothing written, exactly where the result has more ranges than the list has places.
+pub fn merge(
+    list: &mut [u64],
+    count: usize,
+    other: &[u64],
+    n: usize,
+    way: Way,
+) -> Result<Changed, Refusal>
     requires { (well_formed list.old count ≡ true) × (well_formed other.now n ≡ true) }
-    ensures { done result list.new ≡ merge_into taking list.old count (read other.now 0 n) }
+    ensures { done result list.new ≡ merge_into way list.old count (read other.now 0 n) }
 {
-    if idle_all(list, count, other, n, taking) {
-        return Changed {
-            answer: OK,
-            count: count,
+    if idle_all(list, count, other, n, way) {
+        return Ok(Changed {
+            count,
             changed: false,
-        };
+        });
     }
-    let size = count + n - fewer_all(list, count, other, n, taking);
+    let size = count + n - fewer_all(list, count, other, n, way);
     if list.len() / 2 < size {
-        return Changed {
-            answer: FULL,
-            count: 0,
-            changed: false,
-        };
+        return Err(Refusal::Full);
     }
-    let k = squeeze(list, count, other, n, taking);
-    edit_all(list, k, other, n, taking);
-    Changed {
-        answer: OK,
+    let k = squeeze(list, count, other, n, way);
+    edit_all(list, k, other, n, way);
+    Ok(Changed {
         count: size,
         changed: true,
-    }
+    })
 }

@@ -20,7 +20,10 @@ use Rattle.range_edit.specs.declared.Changed.{Changed}
 use Rattle.range_edit.specs.declared.Grown.{Grown}
 use Rattle.range_edit.proofs.Insert.{Reached}
 use Rattle.range_set.specs.declared.Capped.{Capped}
-use Rattle.range_set.specs.Set.{cap, refuse_cap, plain, lowest_out, cappable, insert_capped}
+use Rattle.std.specs.Prelude.{Result, Ok, Some}
+use Rattle.answers.specs.declared.Refusal.{Refusal}
+use Rattle.answers.specs.declared.Refusal.TheVariants.{Range as OutOfRange}
+use Rattle.range_set.specs.Set.{cap, refuse_cap, undropped, plain, lowest_out, cappable, insert_capped}
 use Rattle.range_set.proofs.Laws.{first}
 
 -- an insert adds one range at most
@@ -85,12 +88,12 @@ module _ (l : List ℕ) (n x limit : ℕ) where
   crowded_is at g r = ap (ltb limit) (sym r.size)
 
   -- ---- the answers
-  pub cap_bad : cappable l n x limit ≡ false → refuse_cap 2 l ≡ insert_capped l n x limit
+  pub cap_bad : cappable l n x limit ≡ false → refuse_cap OutOfRange l ≡ insert_capped l n x limit
   unfolding insert_capped
   cap_bad v = simp v
 
-  pub cap_plain : cappable l n x limit ≡ true → ltb limit (length (insert x (x + 1) (read l 0 n))) ≡ false → (r : Changed) (m : List ℕ) → done r m ≡ insert_into l n x (x + 1)
-      → cap (record { answer = r.answer; count = r.count; changed = r.changed; dropped = false; start = 0; end = 0 }) m ≡ insert_capped l n x limit
+  pub cap_plain : cappable l n x limit ≡ true → ltb limit (length (insert x (x + 1) (read l 0 n))) ≡ false → (r : Result Changed Refusal) (m : List ℕ) → done r m ≡ insert_into l n x (x + 1)
+      → cap (undropped r) m ≡ insert_capped l n x limit
   unfolding insert_capped
   cap_plain v k r m e = ap plain e ∙ simp (v, le-leb (length with_x) limit (ltb-false limit (length with_x) k))
 
@@ -105,10 +108,10 @@ module _ (l : List ℕ) (n x limit : ℕ) where
     capped_is = simp (v.taken, lt-leb (length with_x) limit (ltb-true limit (length with_x) k)) (ap (λ (rs : List Range). lowest_out rs l) alone)
 
     -- the new range is the lowest: nothing is written
-    pub cap_lowest : at ≡ 0 → (r : Capped) → r ≡ record { answer = 0; count = n; changed = true; dropped = true; start = x; end = x + 1 } → cap r l ≡ insert_capped l n x limit
+    pub cap_lowest : at ≡ 0 → (r : Capped) → r ≡ record { count = n; changed = true; dropped = Some (record { start = x; end = x + 1 }) } → cap (Ok r) l ≡ insert_capped l n x limit
     cap_lowest e r f =
-        ap (λ (z : Capped). cap z l) f ∙
-        (λ i. cap (record { answer = 0; count = sym (length_read l 0 n) i; changed = true; dropped = true; start = x; end = x + 1 }) (sym (over_same l n (formed l n v.formed).room) i))
+        ap (λ (z : Capped). cap (Ok z) l) f ∙
+        (λ i. cap (Ok (record { count = sym (length_read l 0 n) i; changed = true; dropped = Some (record { start = x; end = x + 1 }) })) (sym (over_same l n (formed l n v.formed).room) i))
         ∙ ap (λ (j : ℕ). lowest_out (splice (read l 0 n) j j (record { lo = x; hi = x + 1 } ∷ [])) l) (sym e) ∙ sym capped_is
 
     -- it is not: the lowest goes, then the new one comes
@@ -122,9 +125,9 @@ module _ (l : List ℕ) (n x limit : ℕ) where
       size : length new ≡ n
       size = simp (length-append, length-drop, length-take-le (at - 1) rest (omega (arith, length_read l 1 (n - 1))), length_read) (omega arith)
 
-      pub cap_drop : (r : Capped) → r ≡ record { answer = 0; count = n; changed = true; dropped = true; start = get_or l 0 0; end = get_or l 1 0 } → (m₁ m₂ : List ℕ) → m₁ ≡ over (flat (splice (read l 0 n) 0 1 [])) l
+      pub cap_drop : (r : Capped) → r ≡ record { count = n; changed = true; dropped = Some (record { start = get_or l 0 0; end = get_or l 1 0 }) } → (m₁ m₂ : List ℕ) → m₁ ≡ over (flat (splice (read l 0 n) 0 1 [])) l
           → m₂ ≡ over (flat (splice (read m₁ 0 (n - 1)) (at - 1) (at - 1) (record { lo = x; hi = x + 1 } ∷ []))) m₁
-          → cap r m₂ ≡ insert_capped l n x limit
+          → cap (Ok r) m₂ ≡ insert_capped l n x limit
       cap_drop r u m₁ m₂ a b =
           let f : m₁ ≡ over (flat rest) l = a ∙ ap (λ (rs : List Range). over (flat (splice rs 0 1 [])) l) (first l n (omega arith)) in
           let g : read m₁ 0 (n - 1) ≡ rest = (λ i. read (f i) 0 (sym (length_read l 1 (n - 1)) i)) ∙ read_over rest l in
@@ -132,5 +135,5 @@ module _ (l : List ℕ) (n x limit : ℕ) where
           b ∙ (λ i. over (flat (splice (g i) (at - 1) (at - 1) (record { lo = x; hi = x + 1 } ∷ []))) (f i))
           ∙ over_over (flat new) (flat rest) l (omega (arith, length_flat new, length_flat rest, size, length_read l 1 (n - 1))) in
           let s : suc (at - 1) ≡ at = omega arith in
-          ap (λ (z : Capped). cap z m₂) u ∙ (λ i. cap (record { answer = 0; count = sym size i; changed = true; dropped = true; start = get_or l 0 0; end = get_or l 1 0 }) (q i))
+          ap (λ (z : Capped). cap (Ok z) m₂) u ∙ (λ i. cap (Ok (record { count = sym size i; changed = true; dropped = Some (record { start = get_or l 0 0; end = get_or l 1 0 }) })) (q i))
           ∙ (λ i. lowest_out (splice (sym (first l n (omega arith)) i) (s i) (s i) (record { lo = x; hi = x + 1 } ∷ [])) l) ∙ sym capped_is

@@ -2,7 +2,7 @@
 -- keeps that, and a history is made of what the functions' own contracts allow. And it is the only list in good form with those numbers.
 -- Assumes nothing.
 use mathlib.Core.Path.{◌≡◌, refl, sym, subst}
-use mathlib.Core.Bool.{Bool, true, false, cond, not}
+use mathlib.Core.Bool.{Bool, true, false, not}
 use mathlib.Core.Logic.{◌⊎◌, inl, inr, ⊎_elim}
 use mathlib.Core.List.{List, [], ◌∷◌}
 use Prim.Native.Nat.{ℕ, ◌+◌, ◌/◌, ◌^◌, ◌≤◌, ◌<◌}
@@ -25,7 +25,12 @@ use Rattle.range_edit.proofs.Remove.{remove_to, remove_from_law, remove_sound}
 use Rattle.range_many.specs.Many.{edit_all, idle_all, merge_into}
 use Rattle.range_list.proofs.Sound as sounds
 use Rattle.range_set.specs.Set.{valid, on_range, on_sets, insert_range, remove_range, replace_range, Pop, pop_first, pop_min, Cap, lowest_out, cappable, insert_capped}
+use Rattle.std.specs.Prelude.{Result, Ok, Err, Option, Some, None}
+use Rattle.answers.specs.declared.Refusal.{Refusal}
+use Rattle.range_many.specs.declared.Way.{Way}
+use Rattle.range_many.specs.declared.Way.TheVariants.{PutIn, TakeOut}
 use Rattle.range_set.specs.declared.Popped.{Popped}
+use Rattle.range_set.specs.declared.Span.{Span}
 use Rattle.range_set.specs.declared.Capped.{Capped}
 use Rattle.range_set.specs.History.{Event, put, cut, refused, Holds}
 use Rattle.range_set.proofs.Laws.{is_valid}
@@ -79,35 +84,35 @@ module _ (rs : List Range) (h : List Event) (w : Has rs h) (s e : ℕ) where
       outside x = by_bool (ltb x s) (λ t. inl (ltb-true x s t)) (λ t. inr (omega (arith, ltb-false x s t)))
 
 -- a second set comes, or goes, range by range
-abbrev pub all_events : Bool → List Range → List Event → List Event
-all_events taking [] h = h
-all_events true (q ∷ qs) h = all_events true qs (cut q.lo q.hi ∷ h)
-all_events false (q ∷ qs) h = all_events false qs (put q.lo q.hi ∷ h)
+abbrev pub all_events : Way → List Range → List Event → List Event
+all_events way [] h = h
+all_events TakeOut (q ∷ qs) h = all_events TakeOut qs (cut q.lo q.hi ∷ h)
+all_events PutIn (q ∷ qs) h = all_events PutIn qs (put q.lo q.hi ∷ h)
 
-pub has_all : (taking : Bool) (least : ℕ) (qs rs : List Range) (h : List Event) → sound least qs ≡ true → Has rs h → Has (edit_all taking rs qs) (all_events taking qs h)
-has_all true least [] rs h s w = w
-has_all false least [] rs h s w = w
-has_all true least (q ∷ qs) rs h s w =
+pub has_all : (way : Way) (least : ℕ) (qs rs : List Range) (h : List Event) → sound least qs ≡ true → Has rs h → Has (edit_all way rs qs) (all_events way qs h)
+has_all TakeOut least [] rs h s w = w
+has_all PutIn least [] rs h s w = w
+has_all TakeOut least (q ∷ qs) rs h s w =
     let p : Sound least q qs = sound_parts least q qs s in
-    has_all true (q.hi + 1) qs (remove q.lo q.hi rs) (cut q.lo q.hi ∷ h) p.rest (has_remove rs h w q.lo q.hi p.some)
-has_all false least (q ∷ qs) rs h s w =
+    has_all TakeOut (q.hi + 1) qs (remove q.lo q.hi rs) (cut q.lo q.hi ∷ h) p.rest (has_remove rs h w q.lo q.hi p.some)
+has_all PutIn least (q ∷ qs) rs h s w =
     let p : Sound least q qs = sound_parts least q qs s in
-    has_all false (q.hi + 1) qs (insert q.lo q.hi rs) (put q.lo q.hi ∷ h) p.rest (has_insert rs h w q.lo q.hi p.some p.upto)
+    has_all PutIn (q.hi + 1) qs (insert q.lo q.hi rs) (put q.lo q.hi ∷ h) p.rest (has_insert rs h w q.lo q.hi p.some p.upto)
 
 -- where none of it changes anything
-pub has_idle : (taking : Bool) (qs rs : List Range) (h : List Event) → idle_all taking rs qs ≡ true → Has rs h → Has rs (all_events taking qs h)
-has_idle true [] rs h i w = w
-has_idle false [] rs h i w = w
-has_idle true (q ∷ qs) rs h i w =
-    let p = sounds.both (not (meets q.lo q.hi rs)) (idle_all true rs qs) i in
-    has_idle true qs rs (cut q.lo q.hi ∷ h) p.1 (has_clear rs h w q.lo q.hi (unmet (meets q.lo q.hi rs) p.0))
+pub has_idle : (way : Way) (qs rs : List Range) (h : List Event) → idle_all way rs qs ≡ true → Has rs h → Has rs (all_events way qs h)
+has_idle TakeOut [] rs h i w = w
+has_idle PutIn [] rs h i w = w
+has_idle TakeOut (q ∷ qs) rs h i w =
+    let p = sounds.both (not (meets q.lo q.hi rs)) (idle_all TakeOut rs qs) i in
+    has_idle TakeOut qs rs (cut q.lo q.hi ∷ h) p.1 (has_clear rs h w q.lo q.hi (unmet (meets q.lo q.hi rs) p.0))
   where
     unmet : (b : Bool) → not b ≡ true → b ≡ false
     unmet true e = sym e
     unmet false e = refl
-has_idle false (q ∷ qs) rs h i w =
-    let p = sounds.both (covers q.lo q.hi rs) (idle_all false rs qs) i in
-    has_idle false qs rs (put q.lo q.hi ∷ h) p.1 (has_covered rs h w q.lo q.hi p.0)
+has_idle PutIn (q ∷ qs) rs h i w =
+    let p = sounds.both (covers q.lo q.hi rs) (idle_all PutIn rs qs) i in
+    has_idle PutIn qs rs (put q.lo q.hi ∷ h) p.1 (has_covered rs h w q.lo q.hi p.0)
 
 -- the lowest range goes
 pub has_rest : (r : Range) (rs : List Range) (h : List Event) → Has (r ∷ rs) h → Has rs (cut r.lo r.hi ∷ h)
@@ -127,19 +132,49 @@ pub record Kept (h : List Event) (l : List ℕ) (n : ℕ) : Type 0 where
 pub kept_over : (rs : List Range) (h : List Event) (l : List ℕ) → Has rs h → length rs ≤ length l / 2 → Kept h (over (flat rs) l) (length rs)
 kept_over rs h l w k = record { formed = formed_over rs l k w.sound; has = subst (λ (x : List Range). Has x h) (sym (read_over rs l)) w }
 
--- the event that a call with the answer a is, and the count that its caller goes on with: a refusal changes neither
-abbrev pub if_ok : ℕ → Event → Event
-if_ok a v = cond (leb a 0) v refused
+-- the event that a call is, and the count that its caller goes on with: a refusal changes neither
+module _ {A : Type 0} where
+  abbrev pub if_ok : (A → Event) → Result A Refusal → Event
+  if_ok event (Ok a) = event a
+  if_ok event (Err why) = refused
 
-abbrev pub count_after : ℕ → ℕ → ℕ → ℕ
-count_after a new old = cond (leb a 0) new old
+  abbrev pub count_after : (A → ℕ) → Result A Refusal → ℕ → ℕ
+  count_after count (Ok a) old = count a
+  count_after count (Err why) old = old
+
+-- what a call with a second set adds to the history h
+abbrev pub set_events : List Event → Way → List Range → Result Changed Refusal → List Event
+set_events h way qs (Ok r) = all_events way qs h
+set_events h way qs (Err why) = refused ∷ h
+
+-- and an insert at a limit: it puts the number in, and takes out the range that it drops
+abbrev pub drop_events : Option Span → List Event → List Event
+drop_events (Some d) g = cut d.start d.end ∷ g
+drop_events None g = g
+
+abbrev pub cap_events : List Event → ℕ → Result Capped Refusal → List Event
+cap_events h x (Ok r) = drop_events r.dropped (put x (x + 1) ∷ h)
+cap_events h x (Err why) = refused ∷ h
+
+-- the counts of the calls' results
+abbrev pub changed_count : Changed → ℕ
+changed_count r = r.count
+
+abbrev pub replaced_count : Replaced → ℕ
+replaced_count r = r.count
+
+abbrev pub popped_count : Popped → ℕ
+popped_count r = r.count
+
+abbrev pub capped_count : Capped → ℕ
+capped_count r = r.count
 
 module _ (h : List Event) (l : List ℕ) (n : ℕ) (w : Kept h l n) where
   still : Kept (refused ∷ h) l n
   still = record { formed = w.formed; has = record { sound = w.has.sound; to = w.has.to; from = w.has.from } }
 
   abbrev After : Event → Done → Type 0
-  After v d = Kept (if_ok d.out.answer v ∷ h) d.mem (count_after d.out.answer d.out.count n)
+  After v d = Kept (if_ok (λ _. v) d.out ∷ h) d.mem (count_after changed_count d.out n)
 
   stays : (v : Event) → Has (read l 0 n) (v ∷ h) → After v (stay l n)
   stays v p = record { formed = w.formed; has = p }
@@ -177,7 +212,7 @@ module _ (h : List Event) (l : List ℕ) (n : ℕ) (w : Kept h l n) where
         (λ t. rw t (stays (cut s e) (has_clear (read l 0 n) h w.has s e t))))
 
     abbrev AfterBoth : Both → Type 0
-    AfterBoth d = Kept (if_ok d.out.answer (put s e) ∷ h) d.mem (count_after d.out.answer d.out.count n)
+    AfterBoth d = Kept (if_ok (λ _. put s e) d.out ∷ h) d.mem (count_after replaced_count d.out n)
 
     pub step_replace : (m : List ℕ) → AfterBoth (replace_range l n s e m)
     unfolding replace_range replace_in
@@ -197,37 +232,36 @@ module _ (h : List Event) (l : List ℕ) (n : ℕ) (w : Kept h l n) where
             (λ t. rw t still)
 
   -- a second set
-  abbrev AfterAll : Bool → List Range → Done → Type 0
-  AfterAll taking qs d = Kept (cond (leb d.out.answer 0) (all_events taking qs h) (refused ∷ h)) d.mem (count_after d.out.answer d.out.count n)
+  abbrev AfterAll : Way → List Range → Done → Type 0
+  AfterAll way qs d = Kept (set_events h way qs d.out) d.mem (count_after changed_count d.out n)
 
-  pub step_merge : (taking : Bool) (o : List ℕ) (k : ℕ) → AfterAll taking (read o 0 k) (on_sets l n o k (merge_into taking l n (read o 0 k)))
+  pub step_merge : (way : Way) (o : List ℕ) (k : ℕ) → AfterAll way (read o 0 k) (on_sets l n o k (merge_into way l n (read o 0 k)))
   unfolding on_sets merge_into
-  step_merge taking o k =
+  step_merge way o k =
       by_bool (well_formed o k)
-      (λ t. rw (w.formed, t) (by_bool (idle_all taking (read l 0 n) (read o 0 k))
-      (λ u. rw u (record { formed = w.formed; has = has_idle taking (read o 0 k) (read l 0 n) h u w.has }))
-      (λ u. rw u (by_bool (leb (length (edit_all taking (read l 0 n) (read o 0 k))) (length l / 2))
-      (λ f. rw f (kept_over (edit_all taking (read l 0 n) (read o 0 k)) (all_events taking (read o 0 k) h) l
-      (has_all taking 0 (read o 0 k) (read l 0 n) h (formed o k t).sound w.has) (leb-true (length (edit_all taking (read l 0 n) (read o 0 k))) (length l / 2) f)))
+      (λ t. rw (w.formed, t) (by_bool (idle_all way (read l 0 n) (read o 0 k))
+      (λ u. rw u (record { formed = w.formed; has = has_idle way (read o 0 k) (read l 0 n) h u w.has }))
+      (λ u. rw u (by_bool (leb (length (edit_all way (read l 0 n) (read o 0 k))) (length l / 2))
+      (λ f. rw f (kept_over (edit_all way (read l 0 n) (read o 0 k)) (all_events way (read o 0 k) h) l
+      (has_all way 0 (read o 0 k) (read l 0 n) h (formed o k t).sound w.has) (leb-true (length (edit_all way (read l 0 n) (read o 0 k))) (length l / 2) f)))
       (λ f. rw f still)))))
       (λ t. rw (w.formed, t) still)
 
   -- a pop takes out the range that it hands back
-  pub step_pop : Kept (if_ok (pop_min l n).out.answer (cut (pop_min l n).out.start (pop_min l n).out.end) ∷ h) (pop_min l n).mem (count_after (pop_min l n).out.answer (pop_min l n).out.count n)
+  abbrev AfterPop : Pop → Type 0
+  AfterPop d = Kept (if_ok (λ (r : Popped). cut r.start r.end) d.out ∷ h) d.mem (count_after popped_count d.out n)
+
+  pub step_pop : AfterPop (pop_min l n)
   unfolding pop_min
   step_pop = rw w.formed (go (read l 0 n) w.has (omega (arith, length_read l 0 n, (formed l n w.formed).room)))
     where
-      go : (rs : List Range) → Has rs h → length rs ≤ length l / 2
-          → Kept (if_ok (pop_first rs l).out.answer (cut (pop_first rs l).out.start (pop_first rs l).out.end) ∷ h) (pop_first rs l).mem (count_after (pop_first rs l).out.answer (pop_first rs l).out.count n)
+      go : (rs : List Range) → Has rs h → length rs ≤ length l / 2 → AfterPop (pop_first rs l)
       go [] p k = still
       go (r ∷ rs) p k = kept_over rs (cut r.lo r.hi ∷ h) l (has_rest r rs h p) (omega arith)
 
-  -- an insert at a limit puts the number in, and takes out the range that it drops
-  abbrev pub cap_events : ℕ → Capped → List Event
-  cap_events x r = cond r.dropped (cut r.start r.end ∷ put x (x + 1) ∷ h) (if_ok r.answer (put x (x + 1)) ∷ h)
-
+  -- an insert at a limit
   abbrev AfterCap : ℕ → Cap → Type 0
-  AfterCap x d = Kept (cap_events x d.out) d.mem (count_after d.out.answer d.out.count n)
+  AfterCap x d = Kept (cap_events h x d.out) d.mem (count_after capped_count d.out n)
 
   pub step_capped : (x limit : ℕ) → AfterCap x (insert_capped l n x limit)
   unfolding insert_capped insert_into
@@ -254,27 +288,27 @@ module _ (h : List Event) (l : List ℕ) (n : ℕ) (w : Kept h l n) where
 -- the list l with n ranges is what the calls h left, each as its contract allows; an insert of one number is an insert (their promises are the same)
 pub data Run : List Event → List ℕ → ℕ → Type 0 where
   start : (l : List ℕ) → Run [] l 0
-  inserted : {h : List Event} {n : ℕ} (κs : Lfts 1) (x : MutBor (List ℕ)) (s e : ℕ) (r : Changed) (m : List ℕ)
+  inserted : {h : List Event} {n : ℕ} (κs : Lfts 1) (x : MutBor (List ℕ)) (s e : ℕ) (r : Result Changed Refusal) (m : List ℕ)
       → Run h x.now n → insert_fn.Reads.Post κs (x, (n, (s, (e, tt)))) r (at_last x m, (n, (s, (e, tt))))
-      → Run (if_ok r.answer (put s e) ∷ h) m (count_after r.answer r.count n)
-  removed : {h : List Event} {n : ℕ} (κs : Lfts 1) (x : MutBor (List ℕ)) (s e : ℕ) (r : Changed) (m : List ℕ)
+      → Run (if_ok (λ _. put s e) r ∷ h) m (count_after changed_count r n)
+  removed : {h : List Event} {n : ℕ} (κs : Lfts 1) (x : MutBor (List ℕ)) (s e : ℕ) (r : Result Changed Refusal) (m : List ℕ)
       → Run h x.now n → remove_fn.Reads.Post κs (x, (n, (s, (e, tt)))) r (at_last x m, (n, (s, (e, tt))))
-      → Run (if_ok r.answer (cut s e) ∷ h) m (count_after r.answer r.count n)
-  replaced : {h : List Event} {n : ℕ} (κs : Lfts 2) (x : MutBor (List ℕ)) (s e : ℕ) (p : MutBor (List ℕ)) (r : Replaced) (m q : List ℕ)
+      → Run (if_ok (λ _. cut s e) r ∷ h) m (count_after changed_count r n)
+  replaced : {h : List Event} {n : ℕ} (κs : Lfts 2) (x : MutBor (List ℕ)) (s e : ℕ) (p : MutBor (List ℕ)) (r : Result Replaced Refusal) (m q : List ℕ)
       → Run h x.now n → replace_fn.Reads.Post κs (x, (n, (s, (e, (p, tt))))) r (at_last x m, (n, (s, (e, (at_last p q, tt)))))
-      → Run (if_ok r.answer (put s e) ∷ h) m (count_after r.answer r.count n)
-  added : {h : List Event} {n : ℕ} (κs : Lfts 2) (x : MutBor (List ℕ)) (o : Bor (List ℕ)) (k : ℕ) (r : Changed) (m : List ℕ)
+      → Run (if_ok (λ _. put s e) r ∷ h) m (count_after replaced_count r n)
+  added : {h : List Event} {n : ℕ} (κs : Lfts 2) (x : MutBor (List ℕ)) (o : Bor (List ℕ)) (k : ℕ) (r : Result Changed Refusal) (m : List ℕ)
       → Run h x.now n → add_fn.Reads.Post κs (x, (n, (o, (k, tt)))) r (at_last x m, (n, (o, (k, tt))))
-      → Run (cond (leb r.answer 0) (all_events false (read o.now 0 k) h) (refused ∷ h)) m (count_after r.answer r.count n)
-  subtracted : {h : List Event} {n : ℕ} (κs : Lfts 2) (x : MutBor (List ℕ)) (o : Bor (List ℕ)) (k : ℕ) (r : Changed) (m : List ℕ)
+      → Run (set_events h PutIn (read o.now 0 k) r) m (count_after changed_count r n)
+  subtracted : {h : List Event} {n : ℕ} (κs : Lfts 2) (x : MutBor (List ℕ)) (o : Bor (List ℕ)) (k : ℕ) (r : Result Changed Refusal) (m : List ℕ)
       → Run h x.now n → subtract_fn.Reads.Post κs (x, (n, (o, (k, tt)))) r (at_last x m, (n, (o, (k, tt))))
-      → Run (cond (leb r.answer 0) (all_events true (read o.now 0 k) h) (refused ∷ h)) m (count_after r.answer r.count n)
-  popped : {h : List Event} {n : ℕ} (κs : Lfts 1) (x : MutBor (List ℕ)) (r : Popped) (m : List ℕ)
+      → Run (set_events h TakeOut (read o.now 0 k) r) m (count_after changed_count r n)
+  popped : {h : List Event} {n : ℕ} (κs : Lfts 1) (x : MutBor (List ℕ)) (r : Result Popped Refusal) (m : List ℕ)
       → Run h x.now n → pop_fn.Reads.Post κs (x, (n, tt)) r (at_last x m, (n, tt))
-      → Run (if_ok r.answer (cut r.start r.end) ∷ h) m (count_after r.answer r.count n)
-  capped : {h : List Event} {n : ℕ} (κs : Lfts 1) (x : MutBor (List ℕ)) (y limit : ℕ) (r : Capped) (m : List ℕ)
+      → Run (if_ok (λ (p : Popped). cut p.start p.end) r ∷ h) m (count_after popped_count r n)
+  capped : {h : List Event} {n : ℕ} (κs : Lfts 1) (x : MutBor (List ℕ)) (y limit : ℕ) (r : Result Capped Refusal) (m : List ℕ)
       → Run h x.now n → capped_fn.Reads.Post κs (x, (n, (y, (limit, tt)))) r (at_last x m, (n, (y, (limit, tt))))
-      → Run (cond r.dropped (cut r.start r.end ∷ put y (y + 1) ∷ h) (if_ok r.answer (put y (y + 1)) ∷ h)) m (count_after r.answer r.count n)
+      → Run (cap_events h y r) m (count_after capped_count r n)
 
 -- an empty list
 pub none : (l : List ℕ) → Kept [] l 0
@@ -286,10 +320,10 @@ kept (start l) = none l
 kept (inserted {h} {n} κs x s e r m d p) = subst (After h x.now n (kept d) (put s e)) (sym p) (step_insert h x.now n (kept d) s e)
 kept (removed {h} {n} κs x s e r m d p) = subst (After h x.now n (kept d) (cut s e)) (sym p) (step_remove h x.now n (kept d) s e)
 kept (replaced {h} {n} κs x s e q r m o d p) = subst (AfterBoth h x.now n (kept d) s e) (sym p) (step_replace h x.now n (kept d) s e q.now)
-kept (added {h} {n} κs x o k r m d p) = subst (AfterAll h x.now n (kept d) false (read o.now 0 k)) (sym p) (step_merge h x.now n (kept d) false o.now k)
-kept (subtracted {h} {n} κs x o k r m d p) = subst (AfterAll h x.now n (kept d) true (read o.now 0 k)) (sym p) (step_merge h x.now n (kept d) true o.now k)
+kept (added {h} {n} κs x o k r m d p) = subst (AfterAll h x.now n (kept d) PutIn (read o.now 0 k)) (sym p) (step_merge h x.now n (kept d) PutIn o.now k)
+kept (subtracted {h} {n} κs x o k r m d p) = subst (AfterAll h x.now n (kept d) TakeOut (read o.now 0 k)) (sym p) (step_merge h x.now n (kept d) TakeOut o.now k)
 kept (popped {h} {n} κs x r m d p) =
-    subst (λ (z : Pop). Kept (if_ok z.out.answer (cut z.out.start z.out.end) ∷ h) z.mem (count_after z.out.answer z.out.count n)) (sym p) (step_pop h x.now n (kept d))
+    subst (AfterPop h x.now n (kept d)) (sym p) (step_pop h x.now n (kept d))
 kept (capped {h} {n} κs x y limit r m d p) = subst (AfterCap h x.now n (kept d) y) (sym p) (step_capped h x.now n (kept d) y limit)
 
 -- two histories that come to the same numbers leave the same ranges, whatever the lists' lengths and whatever was refused

@@ -15,7 +15,9 @@ use Rattle.range_list.proofs.Sound as sounds
 use Rattle.range_edit.specs.Edits.{Done, stay, refuse, covers, head_covers, both, refuse_both, replace_in}
 use Rattle.range_list.proofs.Laws.{read_step, length_read}
 use Rattle.range_edit.proofs.Insert.{Passed, covers_head}
-use Rattle.range_set.specs.declared.Bound.{Bound}
+use Rattle.std.specs.Prelude.{Result, Ok, Err}
+use Rattle.answers.specs.declared.Refusal.{Refusal}
+use Rattle.answers.specs.declared.Refusal.TheVariants.{Range as OutOfRange, Order}
 use Rattle.range_set.specs.Set.{valid, on_range, on_sets, replace_range, member, held_of, least, greatest, bound_of, size_of, pop, refuse_pop, pop_first, pop_min}
 
 -- ---- what `usable` tests, and what it shows
@@ -46,7 +48,7 @@ module _ (l : List ℕ) (n s e : ℕ) where
 
   -- ---- insert and remove
   module _ (d : Done) where
-    pub range_bad : valid l n s e ≡ false → refuse 2 l ≡ on_range l n s e d
+    pub range_bad : valid l n s e ≡ false → refuse OutOfRange l ≡ on_range l n s e d
     unfolding on_range
     range_bad v = simp v
 
@@ -60,11 +62,11 @@ module _ (l : List ℕ) (n s e : ℕ) where
 
   -- ---- replace
   module _ (m : List ℕ) where
-    pub replace_bad : valid l n s e ≡ false → refuse_both 2 l m ≡ replace_range l n s e m
+    pub replace_bad : valid l n s e ≡ false → refuse_both OutOfRange l m ≡ replace_range l n s e m
     unfolding replace_range
     replace_bad v = simp v
 
-    pub replace_empty : valid l n s e ≡ true → e ≤ s → both (record { answer = 0; count = n; parts = 0 }) l m ≡ replace_range l n s e m
+    pub replace_empty : valid l n s e ≡ true → e ≤ s → both (Ok (record { count = n; parts = 0 })) l m ≡ replace_range l n s e m
     unfolding replace_range
     replace_empty v h = simp (v, le-ltb _ _ h)
 
@@ -74,11 +76,11 @@ module _ (l : List ℕ) (n s e : ℕ) where
 
 -- ---- add and subtract
 module _ (l : List ℕ) (n : ℕ) (o : List ℕ) (k : ℕ) (d : Done) where
-  pub sets_bad : well_formed l n ≡ false → refuse 2 l ≡ on_sets l n o k d
+  pub sets_bad : well_formed l n ≡ false → refuse OutOfRange l ≡ on_sets l n o k d
   unfolding on_sets
   sets_bad w = simp w
 
-  pub sets_other : well_formed l n ≡ true → well_formed o k ≡ false → refuse 2 l ≡ on_sets l n o k d
+  pub sets_other : well_formed l n ≡ true → well_formed o k ≡ false → refuse OutOfRange l ≡ on_sets l n o k d
   unfolding on_sets
   sets_other w v = simp (w, v)
 
@@ -87,7 +89,7 @@ module _ (l : List ℕ) (n : ℕ) (o : List ℕ) (k : ℕ) (d : Done) where
   sets_good w v = simp (w, v)
 
 -- insert one: a number past the limit
-pub one_far : (l : List ℕ) (n x : ℕ) (d : Done) → 2 ^ 62 ≤ x → refuse 2 l ≡ on_range l n x (x + 1) d
+pub one_far : (l : List ℕ) (n x : ℕ) (d : Done) → 2 ^ 62 ≤ x → refuse OutOfRange l ≡ on_range l n x (x + 1) d
 unfolding on_range valid
 one_far l n x d h = by_lt (2 ^ 62) x (λ k _. simp (lt-leb _ _ k)) (λ k _. simp (le-leb _ _ k, lt-leb (x + 1) (2 ^ 62) (omega arith)))
 
@@ -100,16 +102,16 @@ member_covers x (r ∷ rs) =
     (λ h t. simp (t, lt-leb (x + 1) r.hi (omega arith)) (ap (λ (b : Bool). leb r.lo x && false || b) (member_covers x rs)))
 
 module _ (l : List ℕ) (n x : ℕ) where
-  pub held_far : 2 ^ 62 ≤ x → record { answer = 2; held = false } ≡ held_of l n x
+  pub held_far : 2 ^ 62 ≤ x → Err OutOfRange ≡ held_of l n x
   unfolding held_of
   held_far h = simp (le-ltb _ _ h)
 
-  pub held_bad : x < 2 ^ 62 → well_formed l n ≡ false → record { answer = 2; held = false } ≡ held_of l n x
+  pub held_bad : x < 2 ^ 62 → well_formed l n ≡ false → Err OutOfRange ≡ held_of l n x
   unfolding held_of
   held_bad h w = simp (lt-ltb _ _ h, w)
 
   pub held_is : x < 2 ^ 62 → Formed l n → (at : ℕ) → Passed l n x at → (b : Bool) → b ≡ head_covers x (x + 1) (read l at (n - at))
-      → record { answer = 0; held = b } ≡ held_of l n x
+      → Ok b ≡ held_of l n x
   unfolding held_of
   held_is h w at p b e =
       let m : member x (read l 0 n) ≡ b =
@@ -121,11 +123,11 @@ module _ (l : List ℕ) (n x : ℕ) where
 pub first : (l : List ℕ) (n : ℕ) → 0 < n → read l 0 n ≡ range_at l 0 ∷ read l 1 (n - 1)
 first l n h = ap (read l 0) (sym (sub-zero n)) ∙ read_step l 0 n h
 
-greatest_read : (l : List ℕ) (i k : ℕ) → greatest (read l i (suc k)) ≡ record { answer = 0; value = get_or l ((i + k) * 2 + 1) 0 - 1 }
-greatest_read l i zero = ap (λ (j : ℕ). record { answer = 0; value = get_or l (j * 2 + 1) 0 - 1 }) (sym (add-zero i))
+greatest_read : (l : List ℕ) (i k : ℕ) → greatest (read l i (suc k)) ≡ Ok (get_or l ((i + k) * 2 + 1) 0 - 1)
+greatest_read l i zero = ap (λ (j : ℕ). Ok (get_or l (j * 2 + 1) 0 - 1)) (sym (add-zero i))
 greatest_read l i (suc k) =
     let e : i + 1 + k ≡ i + suc k = omega arith in
-    greatest_read l (i + 1) k ∙ ap (λ (j : ℕ). record { answer = 0; value = get_or l (j * 2 + 1) 0 - 1 }) e
+    greatest_read l (i + 1) k ∙ ap (λ (j : ℕ). Ok (get_or l (j * 2 + 1) 0 - 1)) e
 
 -- the last end is above what the list is sound from
 last_above : (l : List ℕ) (i k low : ℕ) → sound low (read l i (suc k)) ≡ true → low < get_or l ((i + k) * 2 + 1) 0
@@ -147,50 +149,50 @@ last_some l n h w =
     rw b at (last_above l 0 (n - 1) 0 q)
 
 module _ (l : List ℕ) (n : ℕ) where
-  pub bound_bad : (b : Bound) → well_formed l n ≡ false → record { answer = 2; value = 0 } ≡ bound_of l n b
+  pub bound_bad : (b : Result ℕ Refusal) → well_formed l n ≡ false → Err OutOfRange ≡ bound_of l n b
   unfolding bound_of
   bound_bad b w = simp w
 
-  pub least_none : well_formed l n ≡ true → n ≡ 0 → record { answer = 6; value = 0 } ≡ bound_of l n (least (read l 0 n))
+  pub least_none : well_formed l n ≡ true → n ≡ 0 → Err Order ≡ bound_of l n (least (read l 0 n))
   unfolding bound_of
   least_none w e = ap (λ (k : ℕ). least (read l 0 k)) (sym e) ∙ simp w
 
-  pub least_is : well_formed l n ≡ true → 0 < n → record { answer = 0; value = get_or l 0 0 } ≡ bound_of l n (least (read l 0 n))
+  pub least_is : well_formed l n ≡ true → 0 < n → Ok (get_or l 0 0) ≡ bound_of l n (least (read l 0 n))
   unfolding bound_of
   least_is w h = ap least (sym (first l n h)) ∙ simp w
 
-  pub greatest_none : well_formed l n ≡ true → n ≡ 0 → record { answer = 6; value = 0 } ≡ bound_of l n (greatest (read l 0 n))
+  pub greatest_none : well_formed l n ≡ true → n ≡ 0 → Err Order ≡ bound_of l n (greatest (read l 0 n))
   unfolding bound_of
   greatest_none w e = ap (λ (k : ℕ). greatest (read l 0 k)) (sym e) ∙ simp w
 
-  pub greatest_is : well_formed l n ≡ true → 0 < n → record { answer = 0; value = get_or l (n * 2 - 1) 0 - 1 } ≡ bound_of l n (greatest (read l 0 n))
+  pub greatest_is : well_formed l n ≡ true → 0 < n → Ok (get_or l (n * 2 - 1) 0 - 1) ≡ bound_of l n (greatest (read l 0 n))
   unfolding bound_of
   greatest_is w h =
       let a : suc (n - 1) ≡ n = omega arith in
       let b : (0 + (n - 1)) * 2 + 1 ≡ n * 2 - 1 = omega arith in
-      ap (λ (i : ℕ). record { answer = 0; value = get_or l i 0 - 1 }) (sym b) ∙ sym (greatest_read l 0 (n - 1)) ∙ ap (λ (k : ℕ). greatest (read l 0 k)) a ∙ simp w
+      ap (λ (i : ℕ). Ok (get_or l i 0 - 1)) (sym b) ∙ sym (greatest_read l 0 (n - 1)) ∙ ap (λ (k : ℕ). greatest (read l 0 k)) a ∙ simp w
 
-  pub size_bad : well_formed l n ≡ false → record { answer = 2; count = 0 } ≡ size_of l n
+  pub size_bad : well_formed l n ≡ false → Err OutOfRange ≡ size_of l n
   unfolding size_of
   size_bad w = simp w
 
-  pub size_is : well_formed l n ≡ true → record { answer = 0; count = n } ≡ size_of l n
+  pub size_is : well_formed l n ≡ true → Ok n ≡ size_of l n
   unfolding size_of
   size_is w = simp w
 
   -- ---- pop min
-  pub pop_bad : well_formed l n ≡ false → refuse_pop 2 l ≡ pop_min l n
+  pub pop_bad : well_formed l n ≡ false → refuse_pop OutOfRange l ≡ pop_min l n
   unfolding pop_min
   pop_bad w = simp w
 
-  pub pop_none : well_formed l n ≡ true → n ≡ 0 → refuse_pop 6 l ≡ pop_min l n
+  pub pop_none : well_formed l n ≡ true → n ≡ 0 → refuse_pop Order l ≡ pop_min l n
   unfolding pop_min
   pop_none w e = ap (λ (k : ℕ). pop_first (read l 0 k) l) (sym e) ∙ simp w
 
   pub pop_first_law : well_formed l n ≡ true → 0 < n → (m : List ℕ) → m ≡ over (flat (splice (read l 0 n) 0 1 [])) l
-      → pop (record { answer = 0; count = n - 1; start = get_or l 0 0; end = get_or l 1 0 }) m ≡ pop_min l n
+      → pop (Ok (record { count = n - 1; start = get_or l 0 0; end = get_or l 1 0 })) m ≡ pop_min l n
   unfolding pop_min
   pop_first_law w h m e =
       let f : m ≡ over (flat (read l 1 (n - 1))) l = e ∙ ap (λ (rs : List Range). over (flat (splice rs 0 1 [])) l) (first l n h) in
-      (λ i. pop (record { answer = 0; count = sym (length_read l 1 (n - 1)) i; start = get_or l 0 0; end = get_or l 1 0 }) (f i))
+      (λ i. pop (Ok (record { count = sym (length_read l 1 (n - 1)) i; start = get_or l 0 0; end = get_or l 1 0 })) (f i))
       ∙ ap (λ (rs : List Range). pop_first rs l) (sym (first l n h)) ∙ simp w

@@ -2,9 +2,9 @@
 // A case is a set of six numbers, a range or a second set, and a number of places. Prints how many cases there were, and how many went wrong.
 #![tactic(auto)]
 
-ghost use Rattle.std.specs.Prelude.{◌≡◌, ℕ, ◌≤◌};
+ghost use Rattle.std.specs.Prelude.{◌≤◌};
 
-use answers::{FULL, OK};
+use answers::Refusal;
 use range_edit::{Changed, Replaced};
 
 // The descriptor of standard output.
@@ -13,27 +13,22 @@ const STDOUT: i32 = 1;
 // 5 calls, 64 sets, 64 second sets or ranges, 5 capacities. In 35,840 of them the set has more ranges than places, and there is nothing to try.
 const CASES: u64 = 102400;
 
-// No answer of any call: the lists here are never too short.
-const NONE: u8 = 255;
+// The numbers that a list of this crate holds: eight ranges.
+const NUMBERS: usize = 16;
 
 // Two to the power x, for small x.
 fn two(x: u64) -> u64 {
     if x < 32 { 1 << x } else { 0 }
 }
 
-// a less b, not below 0.
-fn less(a: u64, b: u64) -> u64 {
-    if a < b { 0 } else { a - b }
-}
-
 // The numbers s..e as bits: 2^e - 2^s.
 fn span(s: u64, e: u64) -> u64 {
-    less(two(e), two(s))
+    two(e).saturating_sub(two(s))
 }
 
 // Whether number x is in the set of bits.
 fn has(bits: u64, x: u64) -> bool {
-    if x < 32 { (bits >> x) % 2 == 1 } else { false }
+    x < 32 && (bits >> x) % 2 == 1
 }
 
 // Where a walk over the bits stands: the next place of the flat list, and whether the last number was in the set.
@@ -66,40 +61,36 @@ fn ranges_of(list: &mut [u64], bits: u64) -> usize {
         k: 0,
         inside: false,
     };
-    let mut x: u64 = 0;
-    while x < 32 {
+    for x in 0..32 {
         w = step(list, w, bits, x);
-        x += 1;
     }
     w.k / 2
 }
 
-// Whether two lists are the same.
-fn same(a: &[u64], b: &[u64]) -> bool {
-    if a.len() != b.len() {
-        return false;
-    }
-    let mut i = 0;
-    while i < a.len() {
-        if a[i] != b[i] {
-            return false;
-        }
-        i += 1;
-    }
-    true
+// The calls that are tried.
+#[derive(Clone, Copy, PartialEq, Eq)]
+enum Call {
+    Insert,
+    Remove,
+    Add,
+    Subtract,
+    Replace,
 }
 
-// A number of places that the lists here have.
-fn places(n: usize) -> usize
-    ensures { result ≤ 8 }
-{
-    if n <= 8 { n } else { 8 }
+fn call_at(n: u64) -> Call {
+    match n {
+        0 => Call::Insert,
+        1 => Call::Remove,
+        2 => Call::Add,
+        3 => Call::Subtract,
+        _ => Call::Replace,
+    }
 }
 
 // What a call is tried on.
 #[derive(Clone, Copy)]
 struct Case {
-    call: u64,
+    call: Call,
     set: u64,
     second: u64,
     places: usize,
@@ -109,7 +100,7 @@ struct Case {
 fn case_of(c: u64) -> Case {
     let p = c / 20480 % 5;
     Case {
-        call: c % 5,
+        call: call_at(c % 5),
         set: c / 5 % 64,
         second: c / 320 % 64,
         places: p as usize,
@@ -127,116 +118,87 @@ fn end_of(second: u64) -> u64 {
 
 // The numbers that the call brings or takes: a range, or the second set as it is.
 fn moved(k: Case) -> u64 {
-    let call = k.call;
     let second = k.second;
-    if call == 2 {
-        return second;
+    match k.call {
+        Call::Add | Call::Subtract => second,
+        _ => span(start_of(second), end_of(second)),
     }
-    if call == 3 {
-        return second;
-    }
-    span(start_of(second), end_of(second))
 }
 
 // The set after the call.
 fn after(k: Case) -> u64 {
-    let call = k.call;
     let set = k.set;
     let with = moved(k);
-    if call == 1 {
-        return set ^ (set & with);
+    match k.call {
+        Call::Remove | Call::Subtract => set ^ (set & with),
+        _ => set | with,
     }
-    if call == 3 {
-        return set ^ (set & with);
-    }
-    set | with
 }
 
 // How many ranges a set has.
 fn size(bits: u64) -> usize {
-    let mut list = [0u64; 16];
+    let mut list = [0u64; NUMBERS];
     ranges_of(&mut list, bits)
 }
 
-// Makes the call on the first places of the list.
-fn cut_call(k: Case, list: &mut [u64], count: usize, other: &[u64], n: usize) -> Changed {
-    let end = places(k.places) * 2;
-    if list.len() < end {
-        return Changed {
-            answer: NONE,
-            count: 0,
-            changed: false,
-        };
-    }
-    call_of(k, &mut list[..end], count, other, n)
+// How many numbers the places of a case hold.
+fn numbers(k: Case) -> usize
+    ensures { result ≤ 16 }
+{
+    k.places.min(8) * 2
 }
 
+// What a call that changes a set gives.
+type Change = Result<Changed, Refusal>;
+
 // Makes one of the calls that change a set.
-fn call_of(k: Case, list: &mut [u64], count: usize, other: &[u64], n: usize) -> Changed {
-    let call = k.call;
+fn call_of(k: Case, list: &mut [u64], count: usize, other: &[u64], n: usize) -> Change {
     let s = start_of(k.second);
     let e = end_of(k.second);
-    match call {
-        0 => range_set::insert(list, count, s, e),
-        1 => range_set::remove(list, count, s, e),
-        2 => range_set::add(list, count, other, n),
+    match k.call {
+        Call::Insert => range_set::insert(list, count, s, e),
+        Call::Remove => range_set::remove(list, count, s, e),
+        Call::Add => range_set::add(list, count, other, n),
         _ => range_set::subtract(list, count, other, n),
     }
 }
 
-// What the call gives, and leaves in the list.
-fn changed(k: Case, list: &mut [u64]) -> Changed {
+// What the call gives, and leaves in the list, of which it is lent the first places.
+fn changed(k: Case, list: &mut [u64; NUMBERS]) -> Change {
     let count = ranges_of(list, k.set);
-    let mut other = [99u64; 16];
+    let mut other = [99u64; NUMBERS];
     let n = ranges_of(&mut other, k.second);
-    cut_call(k, list, count, &other, n)
+    call_of(k, &mut list[..numbers(k)], count, &other, n)
 }
 
-// What it is to give and to leave by the bits: FULL, zero values and nothing written; or OK, the new ranges, and past them what was there.
-fn change_wanted(k: Case, list: &mut [u64]) -> Changed {
+// What it is to give and to leave by the bits: Full and nothing written; or the new ranges, and past them what was there.
+fn change_wanted(k: Case, list: &mut [u64; NUMBERS]) -> Change {
     ranges_of(list, k.set);
     let set = after(k);
     if k.places < size(set) {
-        return Changed {
-            answer: FULL,
-            count: 0,
-            changed: false,
-        };
+        return Err(Refusal::Full);
     }
     let count = ranges_of(list, set);
-    Changed {
-        answer: OK,
+    Ok(Changed {
         count,
         changed: set != k.set,
-    }
+    })
 }
 
 fn change_right(k: Case) -> bool {
-    let mut list = [99u64; 16];
-    let mut want = [99u64; 16];
-    let r = changed(k, &mut list);
-    let e = change_wanted(k, &mut want);
-    (r.answer == e.answer) & (r.count == e.count) & (r.changed == e.changed) & same(&list, &want)
+    let mut list = [99u64; NUMBERS];
+    let mut want = [99u64; NUMBERS];
+    changed(k, &mut list) == change_wanted(k, &mut want) && list == want
 }
 
 // The same of replace, on the first places of both lists.
-fn replaced(k: Case, list: &mut [u64], parts: &mut [u64]) -> Replaced {
+fn replaced(
+    k: Case,
+    list: &mut [u64; NUMBERS],
+    parts: &mut [u64; NUMBERS],
+) -> Result<Replaced, Refusal> {
     let count = ranges_of(list, k.set);
-    let end = places(k.places) * 2;
-    if list.len() < end {
-        return Replaced {
-            answer: NONE,
-            count: 0,
-            parts: 0,
-        };
-    }
-    if parts.len() < end {
-        return Replaced {
-            answer: NONE,
-            count: 0,
-            parts: 0,
-        };
-    }
+    let end = numbers(k);
     range_set::replace(
         &mut list[..end],
         count,
@@ -246,60 +208,43 @@ fn replaced(k: Case, list: &mut [u64], parts: &mut [u64]) -> Replaced {
     )
 }
 
-fn replace_wanted(k: Case, list: &mut [u64], parts: &mut [u64]) -> Replaced {
+fn replace_wanted(
+    k: Case,
+    list: &mut [u64; NUMBERS],
+    parts: &mut [u64; NUMBERS],
+) -> Result<Replaced, Refusal> {
     ranges_of(list, k.set);
     let set = k.set | moved(k);
     let common = k.set & moved(k);
-    if k.places < greater(size(set), size(common)) {
-        return Replaced {
-            answer: FULL,
-            count: 0,
-            parts: 0,
-        };
+    if k.places < size(set).max(size(common)) {
+        return Err(Refusal::Full);
     }
     let count = ranges_of(list, set);
-    let n = ranges_of(parts, common);
-    Replaced {
-        answer: OK,
-        count,
-        parts: n,
-    }
+    let parts = ranges_of(parts, common);
+    Ok(Replaced { count, parts })
 }
 
 fn replace_right(k: Case) -> bool {
-    let mut list = [99u64; 16];
-    let mut want = [99u64; 16];
-    let mut parts = [98u64; 16];
-    let mut reported = [98u64; 16];
-    let r = replaced(k, &mut list, &mut parts);
-    let e = replace_wanted(k, &mut want, &mut reported);
-    (r.answer == e.answer)
-        & (r.count == e.count)
-        & (r.parts == e.parts)
-        & same(&list, &want)
-        & same(&parts, &reported)
+    let mut list = [99u64; NUMBERS];
+    let mut want = [99u64; NUMBERS];
+    let mut parts = [98u64; NUMBERS];
+    let mut reported = [98u64; NUMBERS];
+    replaced(k, &mut list, &mut parts) == replace_wanted(k, &mut want, &mut reported)
+        && list == want
+        && parts == reported
 }
 
-fn greater(a: usize, b: usize) -> usize {
-    if a < b { b } else { a }
-}
-
-// One more wrong case, or not; a set with no room in these places is never wrong.
-fn count_wrong(wrong: u64, c: u64) -> u64 {
+// Whether case number c goes wrong; a set with no room in these places never does.
+fn is_wrong(c: u64) -> bool {
     let k = case_of(c);
     if k.places < size(k.set) {
-        return wrong;
+        return false;
     }
-    let ok = if k.call == 4 {
-        replace_right(k)
+    if k.call == Call::Replace {
+        !replace_right(k)
     } else {
-        change_right(k)
-    };
-    if ok { wrong } else { more(wrong) }
-}
-
-fn more(n: u64) -> u64 {
-    if n < u64::MAX { n + 1 } else { n }
+        !change_right(k)
+    }
 }
 
 // Writes text and a number.
@@ -313,10 +258,8 @@ fn say(text: &[u8], n: u64, tail: &[u8]) {
 
 fn main() {
     let mut wrong: u64 = 0;
-    let mut c: u64 = 0;
-    while c < CASES {
-        wrong = count_wrong(wrong, c);
-        c += 1;
+    for c in 0..CASES {
+        wrong += u64::from(is_wrong(c));
     }
     say(b"cases ", CASES, b"\n");
     say(b"wrong ", wrong, b"\n");

@@ -3,76 +3,72 @@
 
 use events::Event;
 use ledger::State;
-use lines::Feed;
+use lines::{Feed, Kind};
+use out::Out;
 use std::env::{Env, FillError};
 use std::fs;
 use std::io::{Error, Read, Result};
 use std::rt::Files;
 
-// The lent arrays' sizes are those of `ledger` and `lines`.
+// What the program lends to `events` and `ledger`: the sizes are theirs.
+#[derive(Drop)]
+struct Lent {
+    numbers: [u64; 32768],
+    bytes: [u8; 65536],
+    scratch: [u8; 65536],
+    memory: [u64; 2432],
+    list: [u64; 32768],
+}
 
-// No event: what a line without one comes to.
-fn none() -> Event {
-    Event {
-        code: codes::UNKNOWN,
-        count: 0,
-        first: 0,
-        size: 0,
+// The event of a line, if any. What is no event has its error line, a line with no word has none.
+fn parse(line: &[u8], number: u64, lent: &mut Lent, out: &mut Out) -> Option<Event> {
+    let words = text::without_note(line);
+    if text::is_end(words, 0) {
+        return None;
+    }
+    match events::parse(words, &mut lent.numbers, &mut lent.bytes) {
+        Ok(e) => Some(e),
+        Err(why) => {
+            say::refused(out, number, why);
+            None
+        }
     }
 }
 
-// The event of the line that was found, if any. What is no event has its error line, a line with no word has none.
-fn event(
-    feed: Feed,
-    buf: &[u8; 65536],
-    numbers: &mut [u64; 32768],
-    bytes: &mut [u8; 65536],
-    out: &mut [u8; 65536],
-    at: &mut usize,
-) -> Event {
-    if feed.kind != lines::LINE {
-        if (feed.kind == lines::LONG) | (feed.kind == lines::FAILED) {
-            say::unread(out, at, feed.number, feed.kind == lines::LONG);
+// The event of what a call for the next line found, if any.
+fn event(feed: Feed, buf: &[u8; 65536], lent: &mut Lent, out: &mut Out) -> Option<Event> {
+    match feed.kind {
+        Kind::Line => parse(lines::line(buf, feed), feed.number, lent, out),
+        Kind::More | Kind::End => None,
+        Kind::Long | Kind::Failed => {
+            say::unread(out, feed.number, feed.kind == Kind::Long);
+            None
         }
-        return none();
     }
-    let words = text::without_note(lines::line(buf, feed));
-    if text::is_end(words, 0) {
-        return none();
-    }
-    let e = events::parse(words, numbers, bytes);
-    if e.code <= codes::UNFIT {
-        say::refused(out, at, feed.number, e.code == codes::UNFIT);
-    }
-    e
 }
 
 // What comes of one call for the next line: its event and the event's line, where there is one.
-fn turn(
-    feed: Feed,
-    buf: &[u8; 65536],
-    s: State,
-    numbers: &mut [u64; 32768],
-    bytes: &mut [u8; 65536],
-    scratch: &mut [u8; 65536],
-    memory: &mut [u64; 2432],
-    list: &mut [u64; 32768],
-    out: &mut [u8; 65536],
-    at: &mut usize,
-) -> State {
-    let e = event(feed, buf, numbers, bytes, out, at);
-    if e.code <= codes::UNFIT {
+fn turn(feed: Feed, buf: &[u8; 65536], s: State, lent: &mut Lent, out: &mut Out) -> State {
+    let Some(e) = event(feed, buf, lent, out) else {
         return s;
-    }
-    let after = ledger::step(e, numbers, bytes, scratch, s, memory, list);
-    show::show(after, scratch, memory, list, out, at);
+    };
+    let after = ledger::step(
+        e,
+        &lent.numbers,
+        &lent.bytes,
+        &mut lent.scratch,
+        s,
+        &mut lent.memory,
+        &mut lent.list,
+    );
+    show::show(after, &lent.scratch, &lent.memory, &lent.list, out);
     after
 }
 
 // What is left to write is written. A write that failed, now or before, is the error.
-fn finish(out: &mut [u8; 65536], mut at: usize) -> Result<()> {
-    out::flush(out, &mut at);
-    if at == out::FAILED {
+fn finish(out: &mut Out) -> Result<()> {
+    out.flush();
+    if out.at == out::FAILED {
         return Err(Error::other("standard output: a write failed"));
     }
     Ok(())
@@ -81,31 +77,24 @@ fn finish(out: &mut [u8; 65536], mut at: usize) -> Result<()> {
 // A proved loop has to end, and nothing says that a file does: the turns are as many as no run uses up.
 fn run<R: Read>(source: &mut R) -> Result<()> {
     let mut buf = io::large_buffer();
-    let mut out = io::large_buffer();
-    let mut bytes = io::large_buffer();
-    let mut scratch = io::large_buffer();
-    let mut numbers = [0u64; 32768];
-    let mut memory = [0u64; 2432];
-    let mut list = [0u64; 32768];
+    let mut out = Out {
+        buf: io::large_buffer(),
+        at: 0,
+    };
+    let mut lent = Lent {
+        numbers: [0; 32768],
+        bytes: io::large_buffer(),
+        scratch: io::large_buffer(),
+        memory: [0; 2432],
+        list: [0; 32768],
+    };
     let mut feed = lines::begin();
     let mut state = ledger::begin();
-    let mut at = 0;
     for _ in 0..u64::MAX {
         feed = lines::next(source, &mut buf, feed);
-        state = turn(
-            feed,
-            &buf,
-            state,
-            &mut numbers,
-            &mut bytes,
-            &mut scratch,
-            &mut memory,
-            &mut list,
-            &mut out,
-            &mut at,
-        );
-        if lines::END <= feed.kind {
-            return finish(&mut out, at);
+        state = turn(feed, &buf, state, &mut lent, &mut out);
+        if matches!(feed.kind, Kind::End | Kind::Failed) {
+            return finish(&mut out);
         }
     }
     Ok(())

@@ -7,6 +7,7 @@ ghost use Rattle.said.specs.Said.{said_plain, said_number, said_two, said_three,
 // An answer with up to three numbers as values.
 #[derive(Clone, Copy)]
 pub struct Said {
+    // A number and no Refusal: `plain` and the others take any number for an answer (docs/PROMISES.md), and the programs print the number.
     pub answer: u8,
     pub count: usize,
     pub a: u64,

@@ -2,77 +2,61 @@
 #![tactic(auto)]
 
 use cid_queue::{CidQueue, Entry};
+use cid_ring::Cid;
 use drive_cq::Gave;
+use out::Out;
+use std::fmt::Write;
 
-// The first bytes of an id.
-fn show_id(id: &[u8; 20], len: usize, buf: &mut [u8; 65536], at: &mut usize) {
-    let s: &[u8] = id;
-    if len <= s.len() {
-        say::bytes(buf, at, &s[0..len]);
+// The bytes of an id.
+fn show_id(cid: Cid, out: &mut Out) {
+    if let Some(s) = cid.id.get(..cid.len) {
+        say::bytes(out, s);
     }
 }
 
 // The values: nothing, numbers and a token, a number and an id, or yes and no.
-fn show_values(g: Gave, buf: &mut [u8; 65536], at: &mut usize) {
+fn show_values(g: Gave, out: &mut Out) {
     let said = g.said;
-    say_answer::name(buf, at, said.answer);
+    say_answer::name(out, said.answer);
     if said.answer != answers::OK {
         return;
     }
-    if g.retired {
-        say::form(buf, at, b" %..% ", &[said.a, said.b]);
-        let token = g.token;
-        out::hex(buf, at, &token);
-        return;
-    }
-    if g.named {
-        say::form(buf, at, b" % ", &[said.a]);
-        let id = g.id;
-        let len = g.len;
-        show_id(&id, len, buf, at);
-        return;
-    }
-    if said.count == 1 {
-        say::form(buf, at, b" %", &[said.a]);
+    if let Some(retired) = g.retired {
+        let _ = write!(out, " {}..{} ", said.a, said.b);
+        out.hex(&retired.token.unwrap_or([0; 16])); // zeros where the new active id has none
+    } else if let Some(cid) = g.named {
+        let _ = write!(out, " {} ", said.a);
+        show_id(cid, out);
+    } else if said.count == 1 {
+        let _ = write!(out, " {}", said.a);
     }
 }
 
 // SEQ:CID/TOKEN of an id held.
-fn show_entry(e: Entry, buf: &mut [u8; 65536], at: &mut usize) {
-    if e.answer != answers::OK {
-        return;
+fn show_entry(e: Entry, out: &mut Out) {
+    let _ = write!(out, " {}:", e.seq);
+    show_id(e.cid, out);
+    out.text(b"/");
+    match e.cid.token {
+        Some(token) => out.hex(&token),
+        None => out.text(b"-"),
     }
-    say::form(buf, at, b" %:", &[e.seq]);
-    let id = e.id;
-    let len = e.len;
-    show_id(&id, len, buf, at);
-    out::text(buf, at, b"/");
-    if e.known {
-        let token = e.token;
-        out::hex(buf, at, &token);
-        return;
-    }
-    out::text(buf, at, b"-");
 }
 
-fn show_queue(q: CidQueue, buf: &mut [u8; 65536], at: &mut usize) {
-    let n = q.active_seq();
-    say::form(buf, at, b" | %", &[n.seq]);
-    let mut i = 0;
-    while i < 5 {
-        show_entry(q.entry(i), buf, at);
-        i += 1;
+fn show_queue(q: CidQueue, out: &mut Out) {
+    let _ = write!(out, " | {}", q.active_seq().unwrap_or(0));
+    for k in 0..5 {
+        if let Ok(e) = q.entry(k) {
+            show_entry(e, out);
+        }
     }
 }
 
 // The line of an event.
-pub fn show(g: Gave, buf: &mut [u8; 65536], at: &mut usize) {
-    show_values(g, buf, at);
-    let k = g.kept;
-    if k.has {
-        let q = k.queue;
-        show_queue(q, buf, at);
-        return;
+pub fn show(g: Gave, out: &mut Out) {
+    show_values(g, out);
+    match g.kept {
+        Some(q) => show_queue(q, out),
+        None => out.text(b" | -"),
     }
-    out::text(buf, at, b" | -");
 }

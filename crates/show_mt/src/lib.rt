@@ -1,82 +1,65 @@
 // The line of an event of the MTU search: its answer, and the search (docs/EVENTS.md).
 #![tactic(auto)]
 
-use drive_mt::{Gave, Kept};
+use drive_mt::Gave;
 use mtu_phase::Phase;
 use mtu_search::SearchState;
-use mtud::View;
+use mtud::{MtuDiscovery, View};
+use out::Out;
+use say::OrDash;
+use std::fmt::Write;
 
-// With the search off the peer's maximum may be unknown.
-fn show_off(mtu: u64, told: bool, peer: u64, buf: &mut [u8; 65536], at: &mut usize) {
-    if told {
-        say::form(buf, at, b" | mtu=% off peer=%", &[mtu, peer]);
-        return;
-    }
-    say::form(buf, at, b" | mtu=% off peer=-", &[mtu]);
-}
+// The peer's maximum until it is received (mtud).
+const MOST: u16 = 65527;
 
-fn show_search(mtu: u64, s: SearchState, peer: u64, buf: &mut [u8; 65536], at: &mut usize) {
-    if s.flying {
-        let values = [
-            mtu,
-            s.lower as u64,
-            s.upper as u64,
-            s.last as u64,
-            s.probe,
-            s.lost as u64,
-            peer,
-        ];
-        say::form(
-            buf,
-            at,
-            b" | mtu=% search(lo=%,up=%,last=%,fly=%,lost=%) peer=%",
-            &values,
-        );
-        return;
-    }
-    let values = [
-        mtu,
-        s.lower as u64,
-        s.upper as u64,
-        s.last as u64,
-        s.lost as u64,
-        peer,
-    ];
-    say::form(
-        buf,
-        at,
-        b" | mtu=% search(lo=%,up=%,last=%,fly=-,lost=%) peer=%",
-        &values,
+fn show_search(s: SearchState, out: &mut Out) {
+    let fly = OrDash(s.flying.then_some(s.probe));
+    let _ = write!(
+        out,
+        "search(lo={},up={},last={},fly={fly},lost={})",
+        s.lower, s.upper, s.last, s.lost
     );
 }
 
-fn show_phase(mtu: u64, p: Phase, told: bool, peer: u64, buf: &mut [u8; 65536], at: &mut usize) {
+fn show_phase(p: Phase, out: &mut Out) {
     match p {
-        Phase::Off => show_off(mtu, told, peer, buf, at),
-        Phase::Initial => say::form(buf, at, b" | mtu=% init peer=%", &[mtu, peer]),
-        Phase::Searching(s) => show_search(mtu, s, peer, buf, at),
-        Phase::Complete(t) => say::form(buf, at, b" | mtu=% rest(%) peer=%", &[mtu, t, peer]),
+        Phase::Off => out.text(b"off"),
+        Phase::Initial => out.text(b"init"),
+        Phase::Searching(s) => show_search(s, out),
+        Phase::Complete(t) => {
+            let _ = write!(out, "rest({t})");
+        }
     }
 }
 
-fn show_view(v: View, buf: &mut [u8; 65536], at: &mut usize) {
-    let p = v.phase;
-    show_phase(v.mtu as u64, p, v.told, v.peer as u64, buf, at);
-    show_hole::show(v.detector, buf, at);
+// With the search off the peer's maximum may be unknown.
+fn peer(v: View) -> OrDash {
+    match v.phase {
+        Phase::Off => OrDash(v.peer.map(|p| u64::from(p))),
+        _ => OrDash(Some(u64::from(v.peer.unwrap_or(MOST)))),
+    }
 }
 
-// The search, or that there is none.
-fn show_kept(k: Kept, buf: &mut [u8; 65536], at: &mut usize) {
-    if k.has {
-        let m = k.mtud;
-        show_view(m.view(), buf, at);
+fn show_view(v: View, out: &mut Out) {
+    let _ = write!(out, " | mtu={} ", v.mtu);
+    show_phase(v.phase, out);
+    let _ = write!(out, " peer={}", peer(v));
+    show_hole::show(v.detector, out);
+}
+
+// The search, or that there is none. One that a state holds is well formed, so its view is not refused.
+fn show_kept(kept: Option<MtuDiscovery>, out: &mut Out) {
+    let Some(m) = kept else {
+        out.text(b" | -");
         return;
+    };
+    if let Ok(v) = m.view() {
+        show_view(v, out);
     }
-    out::text(buf, at, b" | -");
 }
 
 // The line of an event.
-pub fn show(g: Gave, buf: &mut [u8; 65536], at: &mut usize) {
-    say::all(buf, at, g.said);
-    show_kept(g.kept, buf, at);
+pub fn show(g: Gave, out: &mut Out) {
+    say::all(out, g.said);
+    show_kept(g.kept, out);
 }

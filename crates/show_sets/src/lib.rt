@@ -2,31 +2,35 @@
 #![tactic(auto)]
 
 use drive_sets::{Did, Noted};
+use out::Out;
+use std::fmt::Write;
 
 // The window's line.
-pub fn window(n: Noted, buf: &mut [u8; 65536], at: &mut usize) {
-    let said = n.said;
-    let d = n.dedup;
-    say::all(buf, at, said);
-    say::form(buf, at, b" | next=%", &[d.next()]);
+pub fn window(n: Noted, out: &mut Out) {
+    say::all(out, n.said);
+    let _ = write!(out, " | next={}", n.dedup.next());
 }
 
-// A set's line: a popped range and the parts of a replace print as ranges.
-pub fn set(d: Did, code: u8, list: &[u64], parts: &[u64], buf: &mut [u8; 65536], at: &mut usize) {
+// The answer and its values: a popped range and the parts of a replace print as ranges.
+fn show_values(d: Did, code: u8, parts: &[u64], out: &mut Out) {
     let said = d.said;
-    if code == codes::RS_POP {
-        say_answer::name(buf, at, said.answer);
-        if said.answer == answers::OK {
-            say::range(buf, at, said.a, said.b);
+    let done = said.answer == answers::OK;
+    match code {
+        codes::RS_POP if done => {
+            say_answer::name(out, said.answer);
+            say::range(out, said.a, said.b);
         }
-    } else {
-        say::all(buf, at, said);
-        if code == codes::RS_REPLACE {
-            if said.answer == answers::OK {
-                say::ranges(buf, at, parts, d.parts);
-            }
+        codes::RS_REPLACE if done => {
+            say::all(out, said);
+            say::ranges(out, parts, d.parts);
         }
+        _ => say::all(out, said),
     }
-    out::text(buf, at, b" |");
-    say::ranges(buf, at, list, d.count);
+}
+
+// A set's line.
+pub fn set(d: Did, code: u8, list: &[u64], parts: &[u64], out: &mut Out) {
+    show_values(d, code, parts, out);
+    out.text(b" |");
+    say::ranges(out, list, d.count);
 }

@@ -3,34 +3,45 @@
 
 ghost use Rattle.std.specs.Prelude.{◌≡◌};
 ghost use Rattle.streams.specs.Calls.{after};
-ghost use Rattle.st_call.specs.Call.{data_of, call_of, values_of};
+ghost use Rattle.st_call.specs.Call.{data_of, call_of, shown_of, values_of};
 
+use answers::Refusal;
 use said::Said;
 use stream_conn::{Conn, Done};
 
-// The values of an event on one stream.
-pub fn values(code: u8, d: Done) -> Said
-    ensures { result ≡ values_of code d }
+// What each event shows of an answer and the numbers with it.
+#[tactic(auto, unfolding(crate::specs::Call::shown_of))]
+fn shown(code: u8, answer: u8, value: u64, charge: u64, credit: u64) -> Said
+    ensures { result ≡ shown_of code answer value charge credit }
 {
     match code {
-        codes::ST_DATA => said::two(d.answer, d.charge, d.credit),
-        codes::ST_RESET => said::two(d.answer, d.charge, d.credit),
-        codes::ST_STOP => said::three(d.answer, d.charge, d.credit, d.value),
-        codes::ST_READ => said::number(d.answer, d.credit),
-        codes::ST_SEEN => said::number(d.answer, d.value),
-        codes::ST_ANNOUNCE => said::number(d.answer, d.value),
-        codes::ST_WINDOW => said::number(d.answer, d.value),
-        _ => said::plain(d.answer),
+        codes::ST_DATA | codes::ST_RESET => said::two(answer, charge, credit),
+        codes::ST_STOP => said::three(answer, charge, credit, value),
+        codes::ST_READ => said::number(answer, credit),
+        codes::ST_SEEN | codes::ST_ANNOUNCE | codes::ST_WINDOW => said::number(answer, value),
+        _ => said::plain(answer),
+    }
+}
+
+// The values of an event on one stream; all zero where it was refused.
+#[tactic(auto, unfolding(crate::specs::Call::values_of))]
+pub fn values(code: u8, d: Result<Done, Refusal>) -> Said
+    ensures { result ≡ values_of code d }
+{
+    match d {
+        Ok(d) => shown(code, answers::OK, d.value, d.charge, d.credit),
+        Err(why) => shown(code, u8::from(why), 0, 0, 0),
     }
 }
 
 // st.data: FIN is 0 or 1.
-fn data(numbers: &[u64; 32768], c: Conn, table: &mut [u64], count: usize) -> Done
+#[tactic(auto, unfolding(crate::specs::Call::data_of))]
+fn data(numbers: &[u64; 32768], c: Conn, table: &mut [u64], count: usize) -> Result<Done, Refusal>
     ensures { after result table.new ≡ data_of numbers.now c table.old count }
 {
     let fin = numbers[3];
     if 1 < fin {
-        return c.refuse(answers::RANGE);
+        return Err(Refusal::Range);
     }
     streams::data(
         c,
@@ -44,28 +55,25 @@ fn data(numbers: &[u64; 32768], c: Conn, table: &mut [u64], count: usize) -> Don
 }
 
 // The call of an event that names a stream.
-pub fn call(code: u8, numbers: &[u64; 32768], c: Conn, table: &mut [u64], count: usize) -> Done
+#[tactic(auto, unfolding(crate::specs::Call::call_of))]
+pub fn call(
+    code: u8,
+    numbers: &[u64; 32768],
+    c: Conn,
+    table: &mut [u64],
+    count: usize,
+) -> Result<Done, Refusal>
     ensures { after result table.new ≡ call_of code numbers.now c table.old count }
 {
     let id = numbers[0];
     let b = numbers[1];
-    if code == codes::ST_DATA {
-        return data(numbers, c, table, count);
+    match code {
+        codes::ST_DATA => data(numbers, c, table, count),
+        codes::ST_RESET => streams::reset(c, table, count, id, b),
+        codes::ST_STOP => streams::stop(c, table, count, id),
+        codes::ST_READ => streams::read(c, table, count, id, b),
+        codes::ST_SEEN => streams::seen(c, table, count, id),
+        codes::ST_ANNOUNCE => streams::announce(c, table, count, id),
+        _ => streams::sent(c, table, count, id),
     }
-    if code == codes::ST_RESET {
-        return streams::reset(c, table, count, id, b);
-    }
-    if code == codes::ST_STOP {
-        return streams::stop(c, table, count, id);
-    }
-    if code == codes::ST_READ {
-        return streams::read(c, table, count, id, b);
-    }
-    if code == codes::ST_SEEN {
-        return streams::seen(c, table, count, id);
-    }
-    if code == codes::ST_ANNOUNCE {
-        return streams::announce(c, table, count, id);
-    }
-    streams::sent(c, table, count, id)
 }

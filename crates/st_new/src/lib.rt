@@ -2,40 +2,63 @@
 #![tactic(auto)]
 
 ghost use Rattle.std.specs.Prelude.{◌≡◌};
-ghost use Rattle.stream_places.specs.Places.{grown};
-ghost use Rattle.st_new.specs.New.{startable, start_of};
+ghost use Rattle.st_new.specs.New.{startable, granted_of, started, start_of};
 
-use stream_conn::Conn;
+use answers::Refusal;
+use stream_conn::{Conn, Done};
 use stream_places::Changed;
+use stream_table::PLACES;
 
-// Counts of streams are at most this, and so many streams have a place (01, Limits).
+// Counts of streams are at most this (01, Limits).
 const COUNTS: u64 = 1 << 60;
 
-const PLACES: u64 = 256;
-
-// Whether so many streams can be wanted at the start of a connection with that answer.
-pub fn startable(answer: u8, bi: u64, uni: u64) -> u8
-    ensures { result ≡ startable answer bi uni }
-{
-    if answer != answers::OK {
-        return answer;
-    }
-    if COUNTS < bi {
-        return answers::RANGE;
-    }
-    if COUNTS < uni {
-        return answers::RANGE;
-    }
-    if PLACES < bi + uni {
-        return answers::FULL;
-    }
-    answers::OK
+// What the last grant at the start came to, and the books after it.
+#[derive(Clone, Copy)]
+pub struct Started {
+    pub granted: Result<u64, Refusal>,
+    pub count: usize,
+    pub conn: Conn,
 }
 
-// The peer's streams that are wanted at the start are granted: both ways, then one way.
-pub fn start(c: Conn, table: &mut [u64], bi: u64, uni: u64) -> Changed
-    ensures { grown result table.new ≡ start_of c table.old bi uni }
+// The connection that was made, if so many streams can be wanted at its start and each has a place.
+#[tactic(auto, unfolding(crate::specs::New::startable))]
+pub fn startable(made: Result<Done, Refusal>, bi: u64, uni: u64) -> Result<Conn, Refusal>
+    ensures { result ≡ startable made bi uni }
 {
-    let a = stream_places::want(c, table, 0, 0, bi);
-    stream_places::want(a.conn, table, a.count, 1, uni)
+    let d = made?;
+    if (bi > COUNTS) | (uni > COUNTS) {
+        return Err(Refusal::Range);
+    }
+    if bi + uni > PLACES as u64 {
+        return Err(Refusal::Full);
+    }
+    Ok(d.conn)
+}
+
+// The books after a grant: as they were where it was refused.
+fn granted(c: Conn, count: usize, r: Result<Changed, Refusal>) -> Started
+    ensures { result ≡ granted_of c count r }
+{
+    match r {
+        Ok(x) => Started {
+            granted: Ok(x.value),
+            count: x.count,
+            conn: x.conn,
+        },
+        Err(why) => Started {
+            granted: Err(why),
+            count,
+            conn: c,
+        },
+    }
+}
+
+// The peer's streams that are wanted at the start are granted: both ways, then one way, whatever the first grant came to.
+#[tactic(auto, unfolding(crate::specs::New::start_of))]
+pub fn start(c: Conn, table: &mut [u64], bi: u64, uni: u64) -> Started
+    ensures { started result table.new ≡ start_of c table.old bi uni }
+{
+    let both = granted(c, 0, stream_places::want(c, table, 0, 0, bi));
+    let way = stream_places::want(both.conn, table, both.count, 1, uni);
+    granted(both.conn, both.count, way)
 }

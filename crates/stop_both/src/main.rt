@@ -6,6 +6,7 @@
 ghost use Rattle.std.specs.Prelude.{◌≡◌};
 ghost use Rattle.stop_table.specs.Slice.{on_slice, stop_on};
 
+use answers::Refusal;
 use stream_conn::{Conn, Counts, Done};
 use stream_record::Stream;
 
@@ -18,7 +19,7 @@ pub struct Records {
 // What `stop` hands back, and the table afterwards.
 #[derive(Clone, Copy)]
 pub struct Stopped {
-    pub done: Done,
+    pub done: Result<Done, Refusal>,
     pub table: [Stream; 4],
 }
 
@@ -40,6 +41,7 @@ fn on_slice(c: Conn, h: Records, count: usize, id: u64) -> Stopped
     Stopped { done, table: t }
 }
 
+// One figure of a number up to ten, which is written as a letter.
 fn digit(n: u64) -> u8 {
     match n {
         0 => b'0',
@@ -57,58 +59,46 @@ fn digit(n: u64) -> u8 {
     }
 }
 
-fn wide(b: u8) -> u64 {
-    b as u64
-}
-
-fn mark(ok: bool) -> u8 {
-    if ok { b'=' } else { b'!' }
-}
-
-fn same_counts(a: Counts, b: Counts) -> bool {
-    (a.next == b.next)
-        & ((a.max == b.max)
-            & ((a.rmax == b.rmax)
-                & ((a.ralloc == b.ralloc) & ((a.rwant == b.rwant) & (a.rnext == b.rnext)))))
-}
-
-fn same_conn(a: Conn, b: Conn) -> bool {
-    let x = same_counts(a.bi, b.bi);
-    let y = same_counts(a.uni, b.uni);
-    x & (y
-        & ((a.side == b.side)
-            & ((a.charged == b.charged)
-                & ((a.closed == b.closed)
-                    & ((a.grant == b.grant)
-                        & ((a.window == b.window)
-                            & ((a.debt == b.debt) & (a.swindow == b.swindow))))))))
-}
-
-fn same_done(a: Done, b: Done) -> bool {
-    let x = same_conn(a.conn, b.conn);
-    x & ((a.answer == b.answer)
-        & ((a.value == b.value)
-            & ((a.charge == b.charge) & ((a.credit == b.credit) & (a.free == b.free)))))
-}
-
-fn same_record(w: [u64; 28], at: usize, s: Stream) -> bool {
-    if at > 21 {
-        return false;
+// What a call shows: its answer, value and credit; zeros where it was refused.
+fn shown(r: Result<Done, Refusal>) -> (u64, u64, u64) {
+    match r {
+        Ok(d) => (0, d.value, d.credit),
+        Err(why) => (u64::from(u8::from(why)), 0, 0),
     }
-    (w[at] == s.id)
-        & ((w[at + 1] == s.end)
-            & ((w[at + 2] == s.read)
-                & ((w[at + 3] == s.limit)
-                    & ((w[at + 4] == s.phase)
-                        & ((w[at + 5] == s.sending) & (w[at + 6] == s.class))))))
 }
 
-fn same_table(w: [u64; 28], t: [Stream; 4]) -> bool {
-    let a = t[0];
-    let b = t[1];
-    let c = t[2];
-    let d = t[3];
-    same_record(w, 0, a) & (same_record(w, 7, b) & (same_record(w, 14, c) & same_record(w, 21, d)))
+// The connection after a call: as it was where the call was refused.
+fn conn_after(c: Conn, r: Result<Done, Refusal>) -> Conn {
+    match r {
+        Ok(d) => d.conn,
+        Err(_) => c,
+    }
+}
+
+// The record that seven words are; zeros where they are not seven.
+fn record_of(words: &[u64]) -> Stream {
+    match words {
+        [id, end, read, limit, phase, sending, class] => Stream {
+            id: *id,
+            end: *end,
+            read: *read,
+            limit: *limit,
+            phase: *phase,
+            sending: *sending,
+            class: *class,
+        },
+        _ => record(0, 0, 0, 0, 0, 0),
+    }
+}
+
+// The four records of a table of words.
+fn table_of(words: &[u64; 28]) -> [Stream; 4] {
+    [
+        record_of(&words[..7]),
+        record_of(&words[7..14]),
+        record_of(&words[14..21]),
+        record_of(&words[21..]),
+    ]
 }
 
 // One event, on both.
@@ -117,36 +107,34 @@ fn event(b: Both, count: usize, id: u64) -> Both {
     let c = b.conn;
     let d = streams::stop(c, &mut w, count, id);
     let table = b.table;
-    let h = Records { table };
     let o = b.other;
-    let r = on_slice(o, h, count, id);
+    let r = on_slice(o, Records { table }, count, id);
     let e = r.done;
-    let t = r.table;
-    let ok = same_done(d, e) & same_table(w, t);
+    let ok = (d == e) & (table_of(&w) == r.table);
+    let one = shown(d);
+    let two = shown(e);
     let line = [
-        digit(wide(d.answer)),
+        digit(one.0),
         b' ',
-        digit(d.value),
+        digit(one.1),
         b' ',
-        digit(d.credit),
+        digit(one.2),
         b' ',
-        digit(wide(e.answer)),
+        digit(two.0),
         b' ',
-        digit(e.value),
+        digit(two.1),
         b' ',
-        digit(e.credit),
+        digit(two.2),
         b' ',
-        mark(ok),
+        if ok { b'=' } else { b'!' },
         b'\n',
     ];
     io::write_all(1, &line);
-    let conn = d.conn;
-    let other = e.conn;
     Both {
-        conn,
+        conn: conn_after(c, d),
         words: w,
-        other,
-        table: t,
+        other: conn_after(o, e),
+        table: r.table,
     }
 }
 

@@ -1,7 +1,7 @@
 -- The two forms agree: on tables that hold the same records, `stop` on words and `stop` on a slice of records give the same answer and connection, and leave the same records. Case by case both are made of the same definitions.
 -- Assumes nothing.
 use mathlib.Core.Path.{◌≡◌, refl, ap, sym, ◌∙◌}
-use mathlib.Core.Bool.{Bool, true, false, cond}
+use mathlib.Core.Bool.{false, cond}
 use mathlib.Core.List.{List}
 use Prim.Native.Nat.{ℕ, zero, suc, ◌*◌, ◌≤◌, ◌<◌}
 use lib.Dec.{eqb}
@@ -12,20 +12,21 @@ use Rattle.stream_record.specs.declared.Stream.{Stream}
 use Rattle.stream_record.specs.declared.Step.{Step}
 use Rattle.stream_record.specs.Record.{halted}
 use Rattle.stream_conn.specs.declared.Conn.{Conn}
-use Rattle.stream_table.specs.declared.Found.{Found}
-use Rattle.stream_table.specs.declared.Entry.{Entry}
-use Rattle.stream_table.specs.declared.Entry.TheVariants.{No, Absent, Place}
+use Rattle.std.specs.Prelude.{Option, Some, None, Result, Ok, Err}
+use Rattle.answers.specs.declared.Refusal.{Refusal}
+use Rattle.answers.specs.declared.Refusal.TheVariants.{Order}
+use Rattle.stream_table.specs.declared.Place.{Place}
 use Rattle.stream_table.specs.Table.{rec_at, recs_from, records, sound_b, find_from, find_in, placed, entered}
 use Rattle.stream_table.proofs.Tables.{by_cond, records_store, found_below}
 use Rattle.stream_table.proofs.Entries.{entry_told}
-use Rattle.streams.specs.Calls.{After, committed, by_entry, on_stream, stop_after}
-use Rattle.stop_table.specs.Slice.{OnSlice, sound_on, seek_from, entered_on, committed_on, by_entry_on, stop_on}
+use Rattle.streams.specs.Calls.{After, committed, stepped, by_entry, on_stream, stop_after}
+use Rattle.stop_table.specs.Slice.{OnSlice, sound_on, seek_from, entered_on, committed_on, stepped_on, by_entry_on, stop_on}
 
 -- the place that `find` finds, with its record
 placed_from : (l : List ℕ) (k m id : ℕ) → placed l (find_from k (recs_from k m l) id) ≡ seek_from k (recs_from k m l) id
 placed_from l k zero id = refl
 placed_from l k (suc m) id =
-    by_cond (λ (f : Found). placed l f ≡ cond (eqb (rec_at l k).id id) (Place k (rec_at l k)) (seek_from (suc k) (recs_from (suc k) m l) id)) (eqb (rec_at l k).id id) _ _
+    by_cond (λ (f : Option ℕ). placed l f ≡ cond (eqb (rec_at l k).id id) (Some (record { at = k; stream = rec_at l k })) (seek_from (suc k) (recs_from (suc k) m l) id)) (eqb (rec_at l k).id id) _ _
     (λ e. rw (e)) (λ e. rw (e) (placed_from l (suc k) m id))
 
 placed_seek : (l : List ℕ) (n id : ℕ) → placed l (find_in (records n l) id) ≡ seek_from 0 (records n l) id
@@ -36,10 +37,6 @@ placed_seek l n id = placed_from l 0 n id
 pub record Agrees (n : ℕ) (x : After) (y : OnSlice) : Type 0 where
   pub done : x.done ≡ y.done
   pub table : records n x.words ≡ take n y.table
-
-agrees_cond : (n : ℕ) (b : Bool) {x y : After} {z w : OnSlice} → Agrees n x z → Agrees n y w → Agrees n (cond b x y) (cond b z w)
-agrees_cond n true h k = h
-agrees_cond n false h k = k
 
 module _ (c : Conn) (l : List ℕ) (ss : List Stream) (n id : ℕ) (lent : 7 * n ≤ length l) (held : n ≤ length ss) (same : records n l ≡ take n ss) where
   sound_same : sound_b c l n ≡ sound_on c ss n
@@ -53,14 +50,17 @@ module _ (c : Conn) (l : List ℕ) (ss : List Stream) (n id : ℕ) (lent : 7 * n
   committed_same : (i : ℕ) (p : Step) → i < n → Agrees n (committed c l i id false p) (committed_on c ss i id p)
   unfolding committed committed_on
   committed_same i p h =
-      agrees_cond n p.moved
-      (record { done = refl; table = records_store n l i p.stream lent h ∙ ap (λ (rs : List Stream). set rs i p.stream) same ∙ sym (take-set-lt n ss i p.stream h) })
-      (record { done = refl; table = same })
+      record { done = refl; table = records_store n l i p.stream lent h ∙ ap (λ (rs : List Stream). set rs i p.stream) same ∙ sym (take-set-lt n ss i p.stream h) }
 
-  by_entry_law : (x : Entry) → entered c l n id ≡ x → Agrees n (by_entry c l id false 6 halted x) (by_entry_on c ss id x)
-  by_entry_law (No a) e = record { done = refl; table = same }
-  by_entry_law Absent e = record { done = refl; table = same }
-  by_entry_law (Place i s) e = committed_same i (halted s) (found_below n l id i (entry_told c l n id i s e).found)
+  stepped_same : (i : ℕ) (r : Result (Option Step) Refusal) → i < n → Agrees n (stepped c l i id false r) (stepped_on c ss i id r)
+  stepped_same i (Ok (Some p)) h = committed_same i p h
+  stepped_same i (Ok None) h = record { done = refl; table = same }
+  stepped_same i (Err why) h = record { done = refl; table = same }
+
+  by_entry_law : (x : Result (Option Place) Refusal) → entered c l n id ≡ x → Agrees n (by_entry c l id false (Err Order) halted x) (by_entry_on c ss id x)
+  by_entry_law (Ok (Some p)) e = stepped_same p.at (halted p.stream) (found_below n l id p.at (entry_told c l n id p e).found)
+  by_entry_law (Ok None) e = record { done = refl; table = same }
+  by_entry_law (Err why) e = record { done = refl; table = same }
 
   pub stops_agree : Agrees n (stop_after c l n id) (stop_on c ss n id)
   unfolding stop_after on_stream stop_on

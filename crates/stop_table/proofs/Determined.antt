@@ -5,7 +5,9 @@ use Prim.Native.Nat.{ℕ, ◌*◌, ◌≤◌}
 use lib.ListN.{length, take}
 use contract.Lifetimes.{Lfts}
 use denote.Ref.{MutBor, at_last}
+use Rattle.std.specs.Prelude.{Result}
 use Rattle.answers.proofs.Promise.{Whole}
+use Rattle.answers.specs.declared.Refusal.{Refusal}
 use Rattle.stream_record.specs.declared.Stream.{Stream}
 use Rattle.stream_conn.specs.declared.Conn.{Conn}
 use Rattle.stream_conn.specs.declared.Done.{Done}
@@ -21,7 +23,7 @@ stop_whole = (λ κs a. tt, λ κs a x y v w p q. let e = p ∙ sym q in (ap (λ
 
 -- of the same connection, count and id, and tables that hold the same records: what meets the one promise and what meets the other are the same
 module _ (κs : Lfts 1) (c : Conn) (n id : ℕ) (x : MutBor (List ℕ)) (y : MutBor (List Stream)) where
-  pub promises_agree : (r s : Done) (l : List ℕ) (ss : List Stream)
+  pub promises_agree : (r s : Result Done Refusal) (l : List ℕ) (ss : List Stream)
       → 7 * n ≤ length x.now → n ≤ length y.now → records n x.now ≡ take n y.now
       → words.Reads.Post κs (c, (x, (n, (id, tt)))) r (c, (at_last x l, (n, (id, tt))))
       → stop.Reads.Post κs (c, (y, (n, (id, tt)))) s (c, (at_last y ss, (n, (id, tt))))

@@ -9,22 +9,24 @@ use lib.Dec.{eqb, ltb, leb}
 use lib.ListN.{length, get_or, take, drop, set}
 use lib.Seq.{drop-cons, set_out}
 use borrow.Author.Tests.{leb-true}
+use Rattle.std.specs.Prelude.{Option, Some, None, is_some, Result, Ok, Err}
+use Rattle.answers.specs.declared.Refusal.{Refusal}
 use Rattle.stream_record.specs.declared.Stream.{Stream}
 use Rattle.stream_record.specs.declared.Step.{Step}
-use Rattle.stream_record.specs.Record.{none, halted}
+use Rattle.stream_record.specs.Record.{none, on_step, halted}
 use Rattle.stream_conn.specs.declared.Conn.{Conn}
+use Rattle.stream_conn.specs.declared.Done.{Done}
 use Rattle.stream_conn.specs.Books.{admitted, good_conn}
-use Rattle.stream_table.specs.declared.Entry.{Entry}
-use Rattle.stream_table.specs.declared.Entry.TheVariants.{No, Absent, Place}
-use Rattle.stream_table.specs.Table.{theirs, good_rec, good_from, sum_ends}
+use Rattle.stream_table.specs.declared.Place.{Place}
+use Rattle.stream_table.specs.Table.{theirs, good_rec, good_from, sum_ends, let_in}
 use Rattle.stream_table.proofs.Tables.{by_cond, and_left, and_right, good_id, one_most}
 use Rattle.stream_table.proofs.Entries.{good_sum, conn_closed, conn_flow, conn_most}
-use Rattle.streams.specs.Calls.{booked, done_of}
-use Rattle.streams.proofs.Fair.{Fair, stop_fair}
+use Rattle.streams.specs.Calls.{booked, done_of, Fair}
+use Rattle.streams.proofs.Fair.{stop_fair}
 use Rattle.stop_table.specs.declared.Pass.{Pass}
 use Rattle.stop_table.specs.declared.Verdict.{Verdict}
-use Rattle.stop_table.specs.Slice.{OnSlice, on_slice, sound_on, seek_from, entered_on, committed_on, by_entry_on, stop_on}
-use Rattle.stop_table.specs.Passing.{ALL, lent_places, started, marked, noted, counted, pass_next, pass_on, pass_ends, seen_of, entry_of, still, booked_on, settled, by_entry_of, verdict_of, judged}
+use Rattle.stop_table.specs.Slice.{OnSlice, on_slice, sound_on, seek_from, entered_on, committed_on, stepped_on, by_entry_on, stop_on}
+use Rattle.stop_table.specs.Passing.{ALL, lent_places, started, marked, noted, counted, pass_next, pass_on, pass_ends, entry_of, booked_on, settled, settle_step, by_entry_of, verdict_of, judged, written}
 
 -- the m records from place k on
 abbrev pub recs_at : List Stream → ℕ → ℕ → List Stream
@@ -42,7 +44,6 @@ recs_take ss n h = recs_from_law ss 0 n (omega arith)
 -- ---- what a record changes
 -- looking for a stream leaves the running numbers
 record Same (p a : Pass) : Type 0 where
-  len : p.len ≡ a.len
   good : p.good ≡ a.good
   low : p.low ≡ a.low
   left : p.left ≡ a.left
@@ -52,9 +53,9 @@ record Same (p a : Pass) : Type 0 where
 noted_same : (id k : ℕ) (s : Stream) (a : Pass) → Same (noted id k s a) a
 unfolding noted
 noted_same id k s a =
-    let same : Same a a = record { len = refl; good = refl; low = refl; left = refl; both = refl; one = refl } in
-    by_cond (λ (p : Pass). Same p a) a.found a (cond (eqb s.id id) (marked k s a) a) (λ _. same) (λ _.
-    by_cond (λ (p : Pass). Same p a) (eqb s.id id) (marked k s a) a (λ _. record { len = refl; good = refl; low = refl; left = refl; both = refl; one = refl }) (λ _. same))
+    let same : Same a a = record { good = refl; low = refl; left = refl; both = refl; one = refl } in
+    by_cond (λ (p : Pass). Same p a) (is_some a.found) a (cond (eqb s.id id) (marked k s a) a) (λ _. same) (λ _.
+    by_cond (λ (p : Pass). Same p a) (eqb s.id id) (marked k s a) a (λ _. record { good = refl; low = refl; left = refl; both = refl; one = refl }) (λ _. same))
 
 shift : (g r x y z : Bool) → ((g && (r && (x && y))) && z) ≡ (g && (r && (x && (y && z))))
 shift true true true y z = refl
@@ -104,36 +105,42 @@ pass_ends_law c id ss k (suc m) a hb ho =
     ∙ checks_same c (s ∷ recs_at ss (suc k) m) e
 
 -- the first record of the id, or what was found before
-abbrev else_seen : Pass → Entry → Entry
-else_seen a x = cond a.found (Place a.at a.stream) x
+abbrev first : Option Place → Option Place → Option Place
+first None x = x
+first (Some p) x = Some p
 
-counted_seen : (c : Conn) (s : Stream) (a : Pass) (x : Entry) → else_seen (counted c s a) x ≡ else_seen a x
+first_some : (f x y : Option Place) → is_some f ≡ true → first f x ≡ first f y
+first_some (Some p) x y e = refl
+first_some None x y e = absurd (let z : ◌≡◌ {A = ℕ} 0 1 = cc in omega arith)
+
+first_none : (f x : Option Place) → is_some f ≡ false → x ≡ first f x
+first_none (Some p) x e = absurd (let z : ◌≡◌ {A = ℕ} 0 1 = cc in omega arith)
+first_none None x e = refl
+
+first_last : (f : Option Place) → f ≡ first f None
+first_last (Some p) = refl
+first_last None = refl
+
+abbrev here : ℕ → Stream → Option Place
+here k s = Some (record { at = k; stream = s })
+
+counted_seen : (c : Conn) (s : Stream) (a : Pass) (x : Option Place) → first (counted c s a).found x ≡ first a.found x
 unfolding counted
 counted_seen c s a x = refl
 
-noted_seen : (id k : ℕ) (s : Stream) (a : Pass) (x : Entry) → else_seen (noted id k s a) x ≡ else_seen a (cond (eqb s.id id) (Place k s) x)
+noted_seen : (id k : ℕ) (s : Stream) (a : Pass) (x : Option Place) → first (noted id k s a).found x ≡ first a.found (cond (eqb s.id id) (here k s) x)
 unfolding noted
 noted_seen id k s a x =
-    by_cond (λ (p : Pass). else_seen p x ≡ else_seen a (cond (eqb s.id id) (Place k s) x)) a.found a (cond (eqb s.id id) (marked k s a) a)
-    (λ e. rw (e))
-    (λ e. by_cond (λ (p : Pass). else_seen p x ≡ else_seen a (cond (eqb s.id id) (Place k s) x)) (eqb s.id id) (marked k s a) a
-    (λ h. rw (e, h)) (λ h. rw (h)))
+    by_cond (λ (p : Pass). first p.found x ≡ first a.found (cond (eqb s.id id) (here k s) x)) (is_some a.found) a (cond (eqb s.id id) (marked k s a) a)
+    (λ e. first_some a.found x (cond (eqb s.id id) (here k s) x) e)
+    (λ e. by_cond (λ (p : Pass). first p.found x ≡ first a.found (cond (eqb s.id id) (here k s) x)) (eqb s.id id) (marked k s a) a
+    (λ h. rw (h) (first_none a.found (here k s) e)) (λ h. rw (h)))
 
-pub pass_seen : (c : Conn) (id : ℕ) (ss : List Stream) (k m : ℕ) (a : Pass) → seen_of (pass_on c id ss k m a) ≡ else_seen a (seek_from k (recs_at ss k m) id)
-pass_seen c id ss k zero a = refl
+pub pass_seen : (c : Conn) (id : ℕ) (ss : List Stream) (k m : ℕ) (a : Pass) → (pass_on c id ss k m a).found ≡ first a.found (seek_from k (recs_at ss k m) id)
+pass_seen c id ss k zero a = first_last a.found
 pass_seen c id ss k (suc m) a =
     let s : Stream = get_or ss k none in
     pass_seen c id ss (suc k) m (pass_next c id k s a) ∙ counted_seen c s (noted id k s a) (seek_from (suc k) (recs_at ss (suc k) m) id) ∙ noted_seen id k s a (seek_from (suc k) (recs_at ss (suc k) m) id)
-
-counted_len : (c : Conn) (s : Stream) (a : Pass) → (counted c s a).len ≡ a.len
-unfolding counted
-counted_len c s a = refl
-
-pub pass_len : (c : Conn) (id : ℕ) (ss : List Stream) (k m : ℕ) (a : Pass) → (pass_on c id ss k m a).len ≡ a.len
-pass_len c id ss k zero a = refl
-pass_len c id ss k (suc m) a =
-    let s : Stream = get_or ss k none in
-    pass_len c id ss (suc k) m (pass_next c id k s a) ∙ counted_len c s (noted id k s a) ∙ (noted_same id k s a).len
 
 -- ---- the pass over a whole table
 module _ (c : Conn) (len n : ℕ) where
@@ -141,13 +148,9 @@ module _ (c : Conn) (len n : ℕ) where
   unfolding started
   started_checks ss = refl
 
-  started_seen : (x : Entry) → else_seen (started c len n) x ≡ x
+  started_seen : (x : Option Place) → first (started c len n).found x ≡ x
   unfolding started
   started_seen x = refl
-
-  started_len : (started c len n).len ≡ len
-  unfolding started
-  started_len = refl
 
   started_zero : ((started c len n).both ≡ 0) × ((started c len n).one ≡ 0)
   unfolding started
@@ -207,7 +210,7 @@ module _ (c : Conn) (ss : List Stream) (n id : ℕ) where
       let a = and_right (leb n 256) _ e in
       rw (and_left (leb n 256) _ e) (and_left (leb n (length ss)) _ a)
 
-  passed_seen : lent ≡ true → seen_of passed ≡ seek_from 0 (take n ss) id
+  passed_seen : lent ≡ true → passed.found ≡ seek_from 0 (take n ss) id
   passed_seen h =
       pass_seen c id ss 0 (lent_places (length ss) n) (started c (length ss) n)
       ∙ started_seen c (length ss) n (seek_from 0 (recs_at ss 0 (lent_places (length ss) n)) id)
@@ -225,41 +228,42 @@ module _ (c : Conn) (ss : List Stream) (n id : ℕ) where
   unfolding sound_on
   sound_good e = and_right (leb n (length ss)) _ (and_right (leb n 256) _ e)
 
-seek_end : (k : ℕ) (ss : List Stream) (id i : ℕ) (s : Stream) → seek_from k ss id ≡ Place i s → s.end ≤ sum_ends ss
-seek_end k [] id i s = λ e. absurd (let z : ◌≡◌ {A = ℕ} 0 1 = cc in omega arith)
-seek_end k (t ∷ ss) id i s =
-    by_cond (λ (x : Entry). x ≡ Place i s → s.end ≤ t.end + sum_ends ss) (eqb t.id id) (Place k t) (seek_from (suc k) ss id)
-    (λ _ p. let q : t ≡ s = cc in omega (arith, ap (λ (y : Stream). y.end) q))
-    (λ _ p. omega (arith, seek_end (suc k) ss id i s p))
+seek_end : (k : ℕ) (ss : List Stream) (id : ℕ) (p : Place) → seek_from k ss id ≡ Some p → p.stream.end ≤ sum_ends ss
+seek_end k [] id p = λ e. absurd (cc)
+seek_end k (t ∷ ss) id p =
+    by_cond (λ (x : Option Place). x ≡ Some p → p.stream.end ≤ t.end + sum_ends ss) (eqb t.id id) (here k t) (seek_from (suc k) ss id)
+    (λ _ e. let q : ◌≡◌ {A = Place} (record { at = k; stream = t }) p = cc in omega (arith, ap (λ (y : Place). y.stream.end) q))
+    (λ _ e. omega (arith, seek_end (suc k) ss id p e))
 
-never_no : (a i : ℕ) (s : Stream) → No a ≡ Place i s → ⊥
-never_no a i s p = let z : ◌≡◌ {A = ℕ} 0 1 = cc in omega arith
+let_in_some : (o : Option Place) (r : Result (Unit {0}) Refusal) (p : Place) → let_in o r ≡ Ok (Some p) → o ≡ Some p
+let_in_some o (Ok u) p e = cc
+let_in_some o (Err why) p e = absurd (cc)
 
 -- a place is one of a sound table
-pub record Stands (c : Conn) (ss : List Stream) (n id i : ℕ) (s : Stream) : Type 0 where
+pub record Stands (c : Conn) (ss : List Stream) (n id : ℕ) (p : Place) : Type 0 where
   pub sound : sound_on c ss n ≡ true
-  pub found : seek_from 0 (take n ss) id ≡ Place i s
+  pub found : seek_from 0 (take n ss) id ≡ Some p
 
-pub stands : (c : Conn) (ss : List Stream) (n id i : ℕ) (s : Stream) → entered_on c ss n id ≡ Place i s → Stands c ss n id i s
+pub stands : (c : Conn) (ss : List Stream) (n id : ℕ) (p : Place) → entered_on c ss n id ≡ Ok (Some p) → Stands c ss n id p
 unfolding entered_on
-stands c ss n id i s =
-    by_cond (λ (x : Entry). x ≡ Place i s → Stands c ss n id i s) (ltb id (2 ^ 62) && sound_on c ss n) _ _
-    (λ h. by_cond (λ (x : Entry). x ≡ Place i s → Stands c ss n id i s) (eqb (admitted c id) 0) _ _
-    (λ _ p. record { sound = and_right (ltb id (2 ^ 62)) _ h; found = p })
-    (λ _ p. absurd (never_no (admitted c id) i s p)))
-    (λ _ p. absurd (never_no 2 i s p))
+stands c ss n id p =
+    by_cond (λ (x : Result (Option Place) Refusal). x ≡ Ok (Some p) → Stands c ss n id p) (ltb id (2 ^ 62) && sound_on c ss n) _ _
+    (λ h e. record { sound = and_right (ltb id (2 ^ 62)) _ h; found = let_in_some (seek_from 0 (take n ss) id) (admitted c id) p e })
+    (λ _ e. absurd (cc))
 
 -- the books don't pass the largest number
-books_fit : (c : Conn) (ss : List Stream) (n id i : ℕ) (s : Stream) → Stands c ss n id i s → (c.charged + (halted s).charge ≤ ALL) × (c.closed + (halted s).shut ≤ ALL)
-books_fit c ss n id i s h =
+books_fit : (c : Conn) (ss : List Stream) (n id : ℕ) (p : Place) (t : Step) → Stands c ss n id p → halted p.stream ≡ Ok (Some t) → (c.charged + t.charge ≤ ALL) × (c.closed + t.shut ≤ ALL)
+books_fit c ss n id p t h r =
     let g = sound_good c ss n id h.sound in
     let k : good_conn c ≡ true = and_left (good_conn c) _ g in
-    let e : s.end ≤ sum_ends (take n ss) = seek_end 0 (take n ss) id i s h.found in
+    let e : p.stream.end ≤ sum_ends (take n ss) = seek_end 0 (take n ss) id p h.found in
     let u : sum_ends (take n ss) ≡ c.charged - c.closed = good_sum c (take n ss) 0 (c.charged - c.closed) 0 0 (and_right (good_conn c) _ g) in
-    let f : Fair s (c.grant - c.charged) (halted s) = stop_fair s (c.grant - c.charged) in
+    let f : Fair p.stream (c.grant - c.charged) (halted p.stream) = stop_fair p.stream (c.grant - c.charged) in
+    let x : on_step 0 (λ (y : Step). y.charge) (halted p.stream) ≡ t.charge = ap (on_step 0 (λ (y : Step). y.charge)) r in
+    let z : on_step 0 (λ (y : Step). y.shut) (halted p.stream) ≡ t.shut = ap (on_step 0 (λ (y : Step). y.shut)) r in
     let a = f.0 in
     let b = f.1 in
-    (omega (arith, a, conn_flow c k, conn_most c k), omega (arith, a, b, e, u, conn_closed c k, conn_flow c k, conn_most c k))
+    (omega (arith, a, x, conn_flow c k, conn_most c k), omega (arith, a, b, x, z, e, u, conn_closed c k, conn_flow c k, conn_most c k))
 
 booked_on_law : (c : Conn) (p : Step) → c.charged + p.charge ≤ ALL → c.closed + p.shut ≤ ALL → booked_on c p ≡ booked c p.charge p.shut p.credit
 unfolding booked_on booked
@@ -269,30 +273,51 @@ booked_on_law c p h k =
     rw (e₁, e₂)
 
 -- ---- the verdict, carried out
-abbrev pub carried : List Stream → Verdict → OnSlice
-carried ss v = on_slice v.done (set ss v.at v.stream)
+abbrev pub carried : List Stream → Result Verdict Refusal → OnSlice
+carried ss (Ok v) = on_slice (Ok v.done) (written ss v.write)
+carried ss (Err why) = on_slice (Err why) ss
 
-still_carried : (c : Conn) (ss : List Stream) (a : ℕ) → carried ss (still c (length ss) a) ≡ on_slice (still c (length ss) a).done ss
-still_carried c ss a = ap (on_slice (still c (length ss) a).done) (set_out ss (length ss) none (omega arith))
-
-settled_carried : (c : Conn) (ss : List Stream) (i id : ℕ) (p : Step) → booked_on c p ≡ booked c p.charge p.shut p.credit → carried ss (settled c (length ss) i p) ≡ committed_on c ss i id p
+settled_carried : (c : Conn) (ss : List Stream) (i id : ℕ) (p : Step) → booked_on c p ≡ booked c p.charge p.shut p.credit → carried ss (Ok (settled c i p)) ≡ committed_on c ss i id p
 unfolding settled committed_on booked_on
-settled_carried c ss i id p e =
-    by_bool p.moved
-    (λ h. rw (h) (ap (λ (d : Conn). on_slice (done_of p d) (set ss i p.stream)) e))
-    (λ h. rw (h) (still_carried c ss p.answer))
+settled_carried c ss i id p e = ap (λ (d : Conn). on_slice (Ok (done_of p d)) (set ss i p.stream)) e
 
-entry_carried : (c : Conn) (ss : List Stream) (n id : ℕ) (x : Entry) → entered_on c ss n id ≡ x → carried ss (by_entry_of c (length ss) x) ≡ by_entry_on c ss id x
-entry_carried c ss n id (No a) e = still_carried c ss a
-entry_carried c ss n id Absent e = still_carried c ss 6
-entry_carried c ss n id (Place i s) e =
-    let f = books_fit c ss n id i s (stands c ss n id i s e) in
-    settled_carried c ss i id (halted s) (booked_on_law c (halted s) f.0 f.1)
+step_carried : (c : Conn) (ss : List Stream) (n id : ℕ) (p : Place) → Stands c ss n id p → (r : Result (Option Step) Refusal) → halted p.stream ≡ r
+    → carried ss (settle_step c p.at r) ≡ stepped_on c ss p.at id r
+step_carried c ss n id p h (Ok (Some t)) e =
+    let f = books_fit c ss n id p t h e in
+    settled_carried c ss p.at id t (booked_on_law c t f.0 f.1)
+step_carried c ss n id p h (Ok None) e = refl
+step_carried c ss n id p h (Err why) e = refl
 
-pub stop_is : (c : Conn) (ss : List Stream) (n id : ℕ) {v : Verdict} → v ≡ judged c ss n id → carried ss v ≡ stop_on c ss n id
+entry_carried : (c : Conn) (ss : List Stream) (n id : ℕ) (x : Result (Option Place) Refusal) → entered_on c ss n id ≡ x → carried ss (by_entry_of c x) ≡ by_entry_on c ss id x
+entry_carried c ss n id (Ok (Some p)) e = step_carried c ss n id p (stands c ss n id p e) (halted p.stream) refl
+entry_carried c ss n id (Ok None) e = refl
+entry_carried c ss n id (Err why) e = refl
+
+pub stop_is : (c : Conn) (ss : List Stream) (n id : ℕ) {r : Result Verdict Refusal} → r ≡ judged c ss n id → carried ss r ≡ stop_on c ss n id
 unfolding judged verdict_of stop_on
 stop_is c ss n id e =
     ap (carried ss) e
-    ∙ ap (λ (m : ℕ). carried ss (by_entry_of c m (entry_of c id (passed c ss n id)))) (pass_len c id ss 0 (lent_places (length ss) n) (started c (length ss) n) ∙ started_len c (length ss) n)
-    ∙ ap (λ (x : Entry). carried ss (by_entry_of c (length ss) x)) (passed_entry c ss n id)
+    ∙ ap (λ (x : Result (Option Place) Refusal). carried ss (by_entry_of c x)) (passed_entry c ss n id)
     ∙ entry_carried c ss n id (entered_on c ss n id) refl
+
+-- ---- `stop`: a refusal leaves the records, and a verdict is carried out
+module _ (c : Conn) (ss : List Stream) (n id : ℕ) {r : Result Verdict Refusal} (er : r ≡ judged c ss n id) where
+  pub stop_refused : {why : Refusal} {d : Result Done Refusal} → r ≡ Err why → d ≡ Err why → on_slice d ss ≡ stop_on c ss n id
+  stop_refused e ed = ap (λ (x : Result Done Refusal). on_slice x ss) ed ∙ ap (carried ss) (sym e) ∙ stop_is c ss n id er
+
+  pub stop_done : {v : Verdict} {l : List Stream} → r ≡ Ok v → l ≡ written ss v.write → on_slice (Ok v.done) l ≡ stop_on c ss n id
+  stop_done {v} e el = ap (on_slice (Ok v.done)) el ∙ ap (carried ss) (sym e) ∙ stop_is c ss n id er
+
+-- ---- `write`
+module _ (ss : List Stream) {o : Option Place} where
+  pub write_none : o ≡ None → ss ≡ written ss o
+  write_none e = ap (written ss) (sym e)
+
+  pub write_out : {p : Place} → o ≡ Some p → length ss ≤ p.at → ss ≡ written ss o
+  write_out {p} e h = sym (set_out ss p.at p.stream h) ∙ ap (written ss) (sym e)
+
+  pub write_in : {p : Place} → o ≡ Some p → set ss p.at p.stream ≡ written ss o
+  write_in e = ap (written ss) (sym e)
+
+pub ruleset writes = (write_none, write_out, write_in)

@@ -1,17 +1,16 @@
 // `stop` on a lent slice of records, `table: &mut [Stream]` (01, Forms named and Streams and bytes): the same promise as
-// `streams::stop`, which works on lent words. Two functions touch the slice: `judge` passes over it once, `stop` writes one
+// `streams::stop`, which works on lent words. Two functions touch the slice: `judge` passes over it once, `write` puts one
 // record. What they do with a record is by value: one record joins what is known (`next`), and the pass comes to a verdict.
 #![tactic(auto)]
 
-ghost use Rattle.std.specs.Prelude.{◌≡◌, length, set};
-ghost use Rattle.stream_record.specs.Record.{none};
+ghost use Rattle.std.specs.Prelude.{◌≡◌};
 ghost use Rattle.stop_table.specs.Slice.{on_slice, stop_on};
-ghost use Rattle.stop_table.specs.Passing.{lent_places, started, noted, counted, pass_next, pass_ends, entry_of, still, booked_on, settled, verdict_of, judged};
+ghost use Rattle.stop_table.specs.Passing.{lent_places, started, noted, counted, pass_next, pass_ends, entry_of, booked_on, settled, verdict_of, judged, written};
 
-use answers::{OK, ORDER, RANGE};
+use answers::Refusal;
 use stream_conn::{Conn, Done};
 use stream_record::{Step, Stream};
-use stream_table::Entry;
+use stream_table::Place;
 
 // Ids are below this (01, Limits).
 const TOP: u64 = 1 << 62;
@@ -22,9 +21,6 @@ const PLACES: usize = 256;
 // What is known of a table after some of its records.
 #[derive(Clone, Copy)]
 pub struct Pass {
-    // Places lent, and how many of them are looked at: none where the count can't be right.
-    pub len: usize,
-    pub n: usize,
     // Nothing so far speaks against the table.
     pub good: bool,
     // The least id that may follow, and what the ends may still come to.
@@ -33,36 +29,19 @@ pub struct Pass {
     // The peer's streams so far, both ways and one way.
     pub both: u64,
     pub one: u64,
-    // The stream that is looked for: its place and its record.
-    pub found: bool,
-    pub at: usize,
-    pub stream: Stream,
+    // The stream that is looked for.
+    pub found: Option<Place>,
 }
 
-// What a call comes to: `stream` goes to place `at`, and `done` is handed back. Where nothing is to be written there is no such place.
+// What a call comes to: the record that is written, if one is, and what is handed back.
 #[derive(Clone, Copy)]
 pub struct Verdict {
-    pub at: usize,
-    pub stream: Stream,
+    pub write: Option<Place>,
     pub done: Done,
 }
 
-// The stream that stands in a pass where none is found.
-fn blank() -> Stream
-    ensures { result ≡ none }
-{
-    Stream {
-        id: 0,
-        end: 0,
-        read: 0,
-        limit: 0,
-        phase: 0,
-        sending: 0,
-        class: 0,
-    }
-}
-
-// How many places are looked at.
+// How many places are looked at: none where the count can't be right.
+#[tactic(auto, unfolding(crate::specs::Passing::lent_places))]
 fn lent(len: usize, count: usize) -> usize
     ensures { result ≡ lent_places len count }
 {
@@ -76,70 +55,49 @@ fn lent(len: usize, count: usize) -> usize
 }
 
 // Before the first record.
+#[tactic(auto, unfolding(crate::specs::Passing::started))]
 fn begin(c: Conn, len: usize, count: usize) -> Pass
     ensures { result ≡ started c len count }
 {
-    let n = lent(len, count);
-    let left = bounded::less(c.charged, c.closed);
-    let stream = blank();
     Pass {
-        len,
-        n,
         good: (count <= PLACES) & ((count <= len) & c.good()),
         low: 0,
-        left,
+        left: c.charged.saturating_sub(c.closed),
         both: 0,
         one: 0,
-        found: false,
-        at: len,
-        stream,
+        found: None,
     }
 }
 
 // The stream that is looked for is at place `i`, unless it was before.
+#[tactic(auto, unfolding(crate::specs::Passing::noted))]
 fn note(a: Pass, id: u64, i: usize, s: Stream) -> Pass
     ensures { result ≡ noted id i s a }
 {
-    if a.found {
+    if a.found.is_some() {
         return a;
     }
     if s.id == id {
-        return Pass {
-            len: a.len,
-            n: a.n,
-            good: a.good,
-            low: a.low,
-            left: a.left,
-            both: a.both,
-            one: a.one,
-            found: true,
-            at: i,
-            stream: s,
-        };
+        let found = Some(Place { at: i, stream: s });
+        return Pass { found, ..a };
     }
     a
 }
 
 // The record `s` comes next: it must be good, its id above those before, its end within what is left.
+#[tactic(auto, unfolding(crate::specs::Passing::counted))]
 fn count(a: Pass, c: Conn, s: Stream) -> Pass
     ensures { result ≡ counted c s a }
 {
-    let t = a.stream;
-    let left = bounded::less(a.left, s.end);
-    let low = bounded::within(s.id, 1, u64::MAX);
-    let both = bounded::within(a.both, stream_table::count_one(c, 0, s.id), u64::MAX);
-    let one = bounded::within(a.one, stream_table::count_one(c, 1, s.id), u64::MAX);
+    let both = stream_table::count_one(c, 0, s.id);
+    let one = stream_table::count_one(c, 1, s.id);
     Pass {
-        len: a.len,
-        n: a.n,
         good: a.good & (stream_table::good(c, s) & ((a.low <= s.id) & (s.end <= a.left))),
-        low,
-        left,
-        both,
-        one,
-        found: a.found,
-        at: a.at,
-        stream: t,
+        low: s.id.saturating_add(1),
+        left: a.left.saturating_sub(s.end),
+        both: a.both.saturating_add(both),
+        one: a.one.saturating_add(one),
+        ..a
     }
 }
 
@@ -151,128 +109,103 @@ fn next(a: Pass, c: Conn, id: u64, i: usize, s: Stream) -> Pass
 }
 
 // After the last record: nothing spoke against the table, the ends come to what is charged, and the peer's streams are as many as are allocated.
+#[tactic(auto, unfolding(crate::specs::Passing::pass_ends))]
 fn whole(a: Pass, c: Conn) -> bool
     ensures { result ≡ pass_ends c a }
 {
     a.good & ((a.left == 0) & ((a.both == c.bi.ralloc) & (a.one == c.uni.ralloc)))
 }
 
-// What the call begins with: a refusal, a closed stream, or the place with its record.
-fn entry(a: Pass, c: Conn, id: u64) -> Entry
+// What the call begins with: a refusal, or the place with its record; none where the stream is closed.
+#[tactic(auto, unfolding(crate::specs::Passing::entry_of))]
+fn entry(a: Pass, c: Conn, id: u64) -> Result<Option<Place>, Refusal>
     ensures { result ≡ entry_of c id a }
 {
     if id >= TOP {
-        return Entry::No(RANGE);
+        return Err(Refusal::Range);
     }
     if !whole(a, c) {
-        return Entry::No(RANGE);
+        return Err(Refusal::Range);
     }
-    let x = c.admit(id);
-    if x != 0 {
-        return Entry::No(x);
-    }
-    if a.found {
-        let t = a.stream;
-        return Entry::Place(a.at, t);
-    }
-    Entry::Absent
-}
-
-// Nothing is written: `len` is no place.
-fn still(c: Conn, len: usize, answer: u8) -> Verdict
-    ensures { result ≡ still c len answer }
-{
-    let stream = blank();
-    let done = c.refuse(answer);
-    Verdict {
-        at: len,
-        stream,
-        done,
-    }
+    c.admit(id)?;
+    Ok(a.found)
 }
 
 // A step's bytes in the books.
+#[tactic(auto, unfolding(crate::specs::Passing::booked_on))]
 fn book(c: Conn, p: Step) -> Conn
     ensures { result ≡ booked_on c p }
 {
-    let bi = c.bi;
-    let uni = c.uni;
-    let charged = bounded::within(c.charged, p.charge, u64::MAX);
-    let closed = bounded::within(c.closed, p.shut, u64::MAX);
     let d = Conn {
-        side: c.side,
-        bi,
-        uni,
-        charged,
-        closed,
-        grant: c.grant,
-        window: c.window,
-        debt: c.debt,
-        swindow: c.swindow,
+        charged: c.charged.saturating_add(p.charge),
+        closed: c.closed.saturating_add(p.shut),
+        ..c
     };
     d.pay(p.credit)
 }
 
-// A step at place `i` goes into the table and the books, if it moved anything.
-fn settle(c: Conn, len: usize, i: usize, p: Step) -> Verdict
-    ensures { result ≡ settled c len i p }
+// A step at place `i` goes into the table and the books.
+#[tactic(auto, unfolding(crate::specs::Passing::settled))]
+fn settle(c: Conn, i: usize, p: Step) -> Verdict
+    ensures { result ≡ settled c i p }
 {
-    if !p.moved {
-        return still(c, len, p.answer);
-    }
     let t = p.stream;
-    let conn = book(c, p);
     let done = Done {
-        answer: OK,
         value: p.value,
         charge: p.charge,
         credit: p.credit,
         free: (t.phase == 0) & (t.sending == 0),
-        conn,
+        conn: book(c, p),
     };
-    Verdict {
-        at: i,
-        stream: t,
-        done,
-    }
+    let write = Some(Place { at: i, stream: t });
+    Verdict { write, done }
 }
 
 // What stopping the stream comes to, after the pass.
-fn decide(a: Pass, c: Conn, id: u64) -> Verdict
+#[tactic(auto, unfolding(crate::specs::Passing::verdict_of))]
+fn decide(a: Pass, c: Conn, id: u64) -> Result<Verdict, Refusal>
     ensures { result ≡ verdict_of c id a }
 {
-    let x = entry(a, c, id);
-    match x {
-        Entry::No(y) => still(c, a.len, y),
-        Entry::Absent => still(c, a.len, ORDER),
-        Entry::Place(i, s) => {
-            let p = s.stop();
-            settle(c, a.len, i, p)
-        }
-    }
+    let Some(place) = entry(a, c, id)? else {
+        return Err(Refusal::Order);
+    };
+    let Some(step) = place.stream.stop()? else {
+        let done = c.unchanged();
+        return Ok(Verdict { write: None, done });
+    };
+    Ok(settle(c, place.at, step))
 }
 
 // What stopping the stream comes to: one pass over the table.
-fn judge(c: Conn, table: &[Stream], count: usize, id: u64) -> Verdict
+fn judge(c: Conn, table: &[Stream], count: usize, id: u64) -> Result<Verdict, Refusal>
     ensures { result ≡ judged c table.now count id }
 {
+    let n = lent(table.len(), count);
     let mut a = begin(c, table.len(), count);
-    let n = a.n;
-    let mut i = 0;
-    while i < n {
+    for i in 0..n {
         a = next(a, c, id, i, table[i]);
-        i += 1;
     }
     decide(a, c, id)
 }
 
+// The record goes to its place, if one is written.
+fn write(table: &mut [Stream], place: Option<Place>)
+    ensures { table.new ≡ written table.old place }
+{
+    let Some(p) = place else {
+        return;
+    };
+    if p.at >= table.len() {
+        return;
+    }
+    table[p.at] = p.stream;
+}
+
 // We stop the stream: what is unread is credited, and the value is 1 where STOP_SENDING is due.
-pub fn stop(c: Conn, table: &mut [Stream], count: usize, id: u64) -> Done
+pub fn stop(c: Conn, table: &mut [Stream], count: usize, id: u64) -> Result<Done, Refusal>
     ensures { on_slice result table.new ≡ stop_on c table.old count id }
 {
-    let v = judge(c, table, count, id);
-    if v.at < table.len() {
-        table[v.at] = v.stream;
-    }
-    v.done
+    let v = judge(c, table, count, id)?;
+    write(table, v.write);
+    Ok(v.done)
 }

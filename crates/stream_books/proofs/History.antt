@@ -2,28 +2,30 @@
 -- the functions as they stand in the sources: each call keeps good form and books what it hands back, and the rest is induction.
 -- Assumes nothing.
 use mathlib.Core.Path.{◌≡◌, refl, ap, sym, ◌∙◌, subst}
-use mathlib.Core.Bool.{Bool, true, false, cond, ◌||◌}
+use mathlib.Core.Bool.{Bool, true, ◌||◌}
 use mathlib.Core.Logic.{◌⊎◌, inl, inr, ⊎_elim}
 use mathlib.Core.List.{List, [], ◌∷◌}
-use Prim.Native.Nat.{ℕ, zero, suc, ◌+◌, ◌*◌, ◌-◌, ◌^◌, ◌≤◌, ◌<◌, min, max}
+use Prim.Native.Nat.{ℕ, zero, suc, ◌+◌, ◌-◌, ◌^◌, ◌≤◌, ◌<◌, min}
 use native.Mathlib.Omega.{arith}
-use lib.ListN.{length, get_or}
+use lib.ListN.{length}
 use lib.Dec.{ltb, leb}
 use borrow.Author.Tests.{leb-false}
 use contract.Lifetimes.{Lfts}
 use denote.Ref.{MutBor, at_last}
+use Rattle.std.specs.Prelude.{Result, Ok}
+use Rattle.answers.specs.declared.Refusal.{Refusal}
 use Rattle.stream_record.specs.declared.Stream.{Stream}
-use Rattle.stream_record.specs.Record.{none}
 use Rattle.stream_conn.specs.declared.Conn.{Conn}
 use Rattle.stream_conn.specs.declared.Done.{Done}
-use Rattle.stream_conn.specs.Books.{new_done, credit_done, window_done, max_done}
+use Rattle.stream_conn.specs.Books.{fresh_conn, unchanged_done, new_done, credit_done, window_done, max_done}
 use Rattle.stream_table.specs.Table.{sound_b, records, rec_at, sum_ends, good_rec}
 use Rattle.stream_table.proofs.Tables.{by_cond, records_at, length_records}
 use Rattle.stream_table.proofs.Entries.{sound_sum, sound_flow}
-use Rattle.streams.specs.Calls.{After, data_after, reset_after, stop_after, read_after, seen_after, announce_after, sent_after}
+use Rattle.streams.specs.Calls.{After, conn_after, data_after, reset_after, stop_after, read_after, seen_after, announce_after, sent_after}
 use Rattle.stream_places.specs.declared.Changed.{Changed}
-use Rattle.stream_places.specs.Places.{Grown, free_after, want_after, open_after, reject_after}
-use Rattle.stream_form.specs.Form.{sum_of, end_of, read_of, unread, Booked}
+use Rattle.stream_places.specs.Places as places
+use Rattle.stream_places.specs.Places.{Grown, count_after, free_after, want_after, open_after, reject_after}
+use Rattle.stream_form.specs.Form.{sum_of, end_of, read_of, unread, charge_of, credit_of, Booked}
 use Rattle.stream_form.proofs.Facts.{or_left, or_right, rec_numbers}
 use Rattle.stream_form.proofs.Lists.{good_at, read_all}
 use Rattle.stream_form.proofs.Tabled.{sound_form, sound_table}
@@ -47,40 +49,40 @@ use Rattle.stream_conn.proofs.credit as fn_credit
 use Rattle.stream_conn.proofs.window as fn_window
 use Rattle.stream_conn.proofs.max_streams as fn_max
 
--- ---- one call: the state before, what it adds to the totals, the state after
+-- ---- one call: the state before, what it adds to the totals, the state after, which is the state before where the call was refused
 pub data Call : Conn → List ℕ → ℕ → Totals → Conn → List ℕ → ℕ → Type 0 where
-  on_data : (κs : Lfts 1) (x : MutBor (List ℕ)) (c : Conn) (n : ℕ) (id offset len : ℕ) (fin : Bool) (r : Done) (m : List ℕ) → fn_data.Reads.Post κs (c, (x, (n, (id, (offset, (len, (fin, tt))))))) r (c, (at_last x m, (n, (id, (offset, (len, (fin, tt)))))))
-      → Call c x.now n (record { charged = r.charge; credited = r.credit; extra = 0; lost = 0; wide = 0; narrow = 0 }) r.conn m n
-  on_reset : (κs : Lfts 1) (x : MutBor (List ℕ)) (c : Conn) (n : ℕ) (id final : ℕ) (r : Done) (m : List ℕ) → fn_reset.Reads.Post κs (c, (x, (n, (id, (final, tt))))) r (c, (at_last x m, (n, (id, (final, tt)))))
-      → Call c x.now n (record { charged = r.charge; credited = r.credit; extra = 0; lost = 0; wide = 0; narrow = 0 }) r.conn m n
-  on_stop : (κs : Lfts 1) (x : MutBor (List ℕ)) (c : Conn) (n : ℕ) (id : ℕ) (r : Done) (m : List ℕ) → fn_stop.Reads.Post κs (c, (x, (n, (id, tt)))) r (c, (at_last x m, (n, (id, tt))))
-      → Call c x.now n (record { charged = r.charge; credited = r.credit; extra = 0; lost = 0; wide = 0; narrow = 0 }) r.conn m n
-  on_read : (κs : Lfts 1) (x : MutBor (List ℕ)) (c : Conn) (n : ℕ) (id k : ℕ) (r : Done) (m : List ℕ) → fn_read.Reads.Post κs (c, (x, (n, (id, (k, tt))))) r (c, (at_last x m, (n, (id, (k, tt)))))
-      → Call c x.now n (record { charged = r.charge; credited = r.credit; extra = 0; lost = 0; wide = 0; narrow = 0 }) r.conn m n
-  on_seen : (κs : Lfts 1) (x : MutBor (List ℕ)) (c : Conn) (n : ℕ) (id : ℕ) (r : Done) (m : List ℕ) → fn_seen.Reads.Post κs (c, (x, (n, (id, tt)))) r (c, (at_last x m, (n, (id, tt))))
-      → Call c x.now n (record { charged = r.charge; credited = r.credit; extra = 0; lost = 0; wide = 0; narrow = 0 }) r.conn m n
-  on_announce : (κs : Lfts 1) (x : MutBor (List ℕ)) (c : Conn) (n : ℕ) (id : ℕ) (r : Done) (m : List ℕ) → fn_announce.Reads.Post κs (c, (x, (n, (id, tt)))) r (c, (at_last x m, (n, (id, tt))))
-      → Call c x.now n (record { charged = r.charge; credited = r.credit; extra = 0; lost = 0; wide = 0; narrow = 0 }) r.conn m n
-  on_sent : (κs : Lfts 1) (x : MutBor (List ℕ)) (c : Conn) (n : ℕ) (id : ℕ) (r : Done) (m : List ℕ) → fn_sent.Reads.Post κs (c, (x, (n, (id, tt)))) r (c, (at_last x m, (n, (id, tt))))
-      → Call c x.now n (record { charged = r.charge; credited = r.credit; extra = 0; lost = 0; wide = 0; narrow = 0 }) r.conn m n
-  on_free : (κs : Lfts 1) (x : MutBor (List ℕ)) (c : Conn) (n : ℕ) (id : ℕ) (r : Changed) (m : List ℕ) → fn_free.Reads.Post κs (c, (x, (n, (id, tt)))) r (c, (at_last x m, (n, (id, tt))))
-      → Call c x.now n (record { charged = 0; credited = 0; extra = 0; lost = 0; wide = 0; narrow = 0 }) r.conn m r.count
-  on_want : (κs : Lfts 1) (x : MutBor (List ℕ)) (c : Conn) (n : ℕ) (dir desired : ℕ) (r : Changed) (m : List ℕ) → fn_want.Reads.Post κs (c, (x, (n, (dir, (desired, tt))))) r (c, (at_last x m, (n, (dir, (desired, tt)))))
-      → Call c x.now n (record { charged = 0; credited = 0; extra = 0; lost = 0; wide = 0; narrow = 0 }) r.conn m r.count
-  on_open : (κs : Lfts 1) (x : MutBor (List ℕ)) (c : Conn) (n : ℕ) (dir : ℕ) (r : Changed) (m : List ℕ) → fn_open.Reads.Post κs (c, (x, (n, (dir, tt)))) r (c, (at_last x m, (n, (dir, tt))))
-      → Call c x.now n (record { charged = 0; credited = 0; extra = 0; lost = 0; wide = 0; narrow = 0 }) r.conn m r.count
-  on_rejected : (κs : Lfts 1) (x : MutBor (List ℕ)) (c : Conn) (n : ℕ) (r : Changed) (m : List ℕ) → fn_rejected.Reads.Post κs (c, (x, (n, tt))) r (c, (at_last x m, (n, tt)))
-      → Call c x.now n (record { charged = 0; credited = 0; extra = 0; lost = unread c.side (records n x.now); wide = 0; narrow = 0 }) r.conn m r.count
-  on_credit : (c : Conn) (l : List ℕ) (n k : ℕ) (r : Done) → fn_credit.Reads.Post tt (c, (k, tt)) r (c, (k, tt))
-      → Call c l n (record { charged = 0; credited = 0; extra = r.credit; lost = 0; wide = 0; narrow = 0 }) r.conn l n
-  on_window : (c : Conn) (l : List ℕ) (n w : ℕ) (r : Done) → fn_window.Reads.Post tt (c, (w, tt)) r (c, (w, tt))
-      → Call c l n (record { charged = 0; credited = 0; extra = 0; lost = 0; wide = r.conn.window - c.window; narrow = c.window - r.conn.window }) r.conn l n
-  on_max : (c : Conn) (l : List ℕ) (n dir k : ℕ) (r : Done) → fn_max.Reads.Post tt (c, (dir, (k, tt))) r (c, (dir, (k, tt)))
-      → Call c l n nothing r.conn l n
+  on_data : (κs : Lfts 1) (x : MutBor (List ℕ)) (c : Conn) (n : ℕ) (id offset len : ℕ) (fin : Bool) (r : Result Done Refusal) (m : List ℕ) → fn_data.Reads.Post κs (c, (x, (n, (id, (offset, (len, (fin, tt))))))) r (c, (at_last x m, (n, (id, (offset, (len, (fin, tt)))))))
+      → Call c x.now n (record { charged = charge_of r; credited = credit_of r; extra = 0; lost = 0; wide = 0; narrow = 0 }) (conn_after c r) m n
+  on_reset : (κs : Lfts 1) (x : MutBor (List ℕ)) (c : Conn) (n : ℕ) (id final : ℕ) (r : Result Done Refusal) (m : List ℕ) → fn_reset.Reads.Post κs (c, (x, (n, (id, (final, tt))))) r (c, (at_last x m, (n, (id, (final, tt)))))
+      → Call c x.now n (record { charged = charge_of r; credited = credit_of r; extra = 0; lost = 0; wide = 0; narrow = 0 }) (conn_after c r) m n
+  on_stop : (κs : Lfts 1) (x : MutBor (List ℕ)) (c : Conn) (n : ℕ) (id : ℕ) (r : Result Done Refusal) (m : List ℕ) → fn_stop.Reads.Post κs (c, (x, (n, (id, tt)))) r (c, (at_last x m, (n, (id, tt))))
+      → Call c x.now n (record { charged = charge_of r; credited = credit_of r; extra = 0; lost = 0; wide = 0; narrow = 0 }) (conn_after c r) m n
+  on_read : (κs : Lfts 1) (x : MutBor (List ℕ)) (c : Conn) (n : ℕ) (id k : ℕ) (r : Result Done Refusal) (m : List ℕ) → fn_read.Reads.Post κs (c, (x, (n, (id, (k, tt))))) r (c, (at_last x m, (n, (id, (k, tt)))))
+      → Call c x.now n (record { charged = charge_of r; credited = credit_of r; extra = 0; lost = 0; wide = 0; narrow = 0 }) (conn_after c r) m n
+  on_seen : (κs : Lfts 1) (x : MutBor (List ℕ)) (c : Conn) (n : ℕ) (id : ℕ) (r : Result Done Refusal) (m : List ℕ) → fn_seen.Reads.Post κs (c, (x, (n, (id, tt)))) r (c, (at_last x m, (n, (id, tt))))
+      → Call c x.now n (record { charged = charge_of r; credited = credit_of r; extra = 0; lost = 0; wide = 0; narrow = 0 }) (conn_after c r) m n
+  on_announce : (κs : Lfts 1) (x : MutBor (List ℕ)) (c : Conn) (n : ℕ) (id : ℕ) (r : Result Done Refusal) (m : List ℕ) → fn_announce.Reads.Post κs (c, (x, (n, (id, tt)))) r (c, (at_last x m, (n, (id, tt))))
+      → Call c x.now n (record { charged = charge_of r; credited = credit_of r; extra = 0; lost = 0; wide = 0; narrow = 0 }) (conn_after c r) m n
+  on_sent : (κs : Lfts 1) (x : MutBor (List ℕ)) (c : Conn) (n : ℕ) (id : ℕ) (r : Result Done Refusal) (m : List ℕ) → fn_sent.Reads.Post κs (c, (x, (n, (id, tt)))) r (c, (at_last x m, (n, (id, tt))))
+      → Call c x.now n (record { charged = charge_of r; credited = credit_of r; extra = 0; lost = 0; wide = 0; narrow = 0 }) (conn_after c r) m n
+  on_free : (κs : Lfts 1) (x : MutBor (List ℕ)) (c : Conn) (n : ℕ) (id : ℕ) (r : Result Changed Refusal) (m : List ℕ) → fn_free.Reads.Post κs (c, (x, (n, (id, tt)))) r (c, (at_last x m, (n, (id, tt))))
+      → Call c x.now n (record { charged = 0; credited = 0; extra = 0; lost = 0; wide = 0; narrow = 0 }) (places.conn_after c r) m (count_after n r)
+  on_want : (κs : Lfts 1) (x : MutBor (List ℕ)) (c : Conn) (n : ℕ) (dir desired : ℕ) (r : Result Changed Refusal) (m : List ℕ) → fn_want.Reads.Post κs (c, (x, (n, (dir, (desired, tt))))) r (c, (at_last x m, (n, (dir, (desired, tt)))))
+      → Call c x.now n (record { charged = 0; credited = 0; extra = 0; lost = 0; wide = 0; narrow = 0 }) (places.conn_after c r) m (count_after n r)
+  on_open : (κs : Lfts 1) (x : MutBor (List ℕ)) (c : Conn) (n : ℕ) (dir : ℕ) (r : Result Changed Refusal) (m : List ℕ) → fn_open.Reads.Post κs (c, (x, (n, (dir, tt)))) r (c, (at_last x m, (n, (dir, tt))))
+      → Call c x.now n (record { charged = 0; credited = 0; extra = 0; lost = 0; wide = 0; narrow = 0 }) (places.conn_after c r) m (count_after n r)
+  on_rejected : (κs : Lfts 1) (x : MutBor (List ℕ)) (c : Conn) (n : ℕ) (r : Result Changed Refusal) (m : List ℕ) → fn_rejected.Reads.Post κs (c, (x, (n, tt))) r (c, (at_last x m, (n, tt)))
+      → Call c x.now n (record { charged = 0; credited = 0; extra = 0; lost = unread c.side (records n x.now); wide = 0; narrow = 0 }) (places.conn_after c r) m (count_after n r)
+  on_credit : (c : Conn) (l : List ℕ) (n k : ℕ) (r : Result Done Refusal) → fn_credit.Reads.Post tt (c, (k, tt)) r (c, (k, tt))
+      → Call c l n (record { charged = 0; credited = 0; extra = credit_of r; lost = 0; wide = 0; narrow = 0 }) (conn_after c r) l n
+  on_window : (c : Conn) (l : List ℕ) (n w : ℕ) (r : Result Done Refusal) → fn_window.Reads.Post tt (c, (w, tt)) r (c, (w, tt))
+      → Call c l n (record { charged = 0; credited = 0; extra = 0; lost = 0; wide = (conn_after c r).window - c.window; narrow = c.window - (conn_after c r).window }) (conn_after c r) l n
+  on_max : (c : Conn) (l : List ℕ) (n dir k : ℕ) (r : Result Done Refusal) → fn_max.Reads.Post tt (c, (dir, (k, tt))) r (c, (dir, (k, tt)))
+      → Call c l n nothing (conn_after c r) l n
 
--- ---- any number of them from a fresh connection and an empty table
+-- ---- any number of them from a fresh connection and an empty table; a refused start makes no connection
 pub data Run : ℕ → Totals → Conn → List ℕ → ℕ → Type 0 where
-  start : (side w sw : ℕ) (r : Done) (l : List ℕ) → fn_new.Reads.Post tt (side, (w, (sw, tt))) r (side, (w, (sw, tt))) → Run r.conn.grant nothing r.conn l 0
+  start : (side w sw : ℕ) (d : Done) (l : List ℕ) → fn_new.Reads.Post tt (side, (w, (sw, tt))) (Ok d) (side, (w, (sw, tt))) → Run d.conn.grant nothing d.conn l 0
   next : {given : ℕ} {s t : Totals} {c d : Conn} {l k : List ℕ} {n m : ℕ} → Run given s c l n → Call c l n t d k m → Run given (plus s t) d k m
 
 -- ---- what a call does to the books, the window's included
@@ -167,17 +169,17 @@ window_moved c l n w v d e fits b =
 
 -- ---- each call
 module _ (c : Conn) (l : List ℕ) (n : ℕ) (e : sound_b c l n ≡ true) (fits : c.debt ≤ 18446744073709551615) where
-  on_stream_law : (y x : After) → y ≡ x → Booked c l n x.done.charge x.done.credit 0 0 x.done.conn x.words n
-      → Moved c l n (record { charged = y.done.charge; credited = y.done.credit; extra = 0; lost = 0; wide = 0; narrow = 0 }) y.done.conn y.words n
+  on_stream_law : (y x : After) → y ≡ x → Booked c l n (charge_of x.done) (credit_of x.done) 0 0 (conn_after c x.done) x.words n
+      → Moved c l n (record { charged = charge_of y.done; credited = credit_of y.done; extra = 0; lost = 0; wide = 0; narrow = 0 }) (conn_after c y.done) y.words n
   on_stream_law y x p b =
-      subst (λ (z : After). Moved c l n (record { charged = z.done.charge; credited = z.done.credit; extra = 0; lost = 0; wide = 0; narrow = 0 }) z.done.conn z.words n) (sym p)
-      (booked_moved c l n x.done.charge x.done.credit 0 0 x.done.conn x.words n e fits b)
+      subst (λ (z : After). Moved c l n (record { charged = charge_of z.done; credited = credit_of z.done; extra = 0; lost = 0; wide = 0; narrow = 0 }) (conn_after c z.done) z.words n) (sym p)
+      (booked_moved c l n (charge_of x.done) (credit_of x.done) 0 0 (conn_after c x.done) x.words n e fits b)
 
-  on_place : (lost : ℕ) (y x : Grown) → y ≡ x → Booked c l n 0 0 0 lost x.out.conn x.words x.out.count
-      → Moved c l n (record { charged = 0; credited = 0; extra = 0; lost = lost; wide = 0; narrow = 0 }) y.out.conn y.words y.out.count
+  on_place : (lost : ℕ) (y x : Grown) → y ≡ x → Booked c l n 0 0 0 lost (places.conn_after c x.out) x.words (count_after n x.out)
+      → Moved c l n (record { charged = 0; credited = 0; extra = 0; lost = lost; wide = 0; narrow = 0 }) (places.conn_after c y.out) y.words (count_after n y.out)
   on_place lost y x p b =
-      subst (λ (z : Grown). Moved c l n (record { charged = 0; credited = 0; extra = 0; lost = lost; wide = 0; narrow = 0 }) z.out.conn z.words z.out.count) (sym p)
-      (booked_moved c l n 0 0 0 lost x.out.conn x.words x.out.count e fits b)
+      subst (λ (z : Grown). Moved c l n (record { charged = 0; credited = 0; extra = 0; lost = lost; wide = 0; narrow = 0 }) (places.conn_after c z.out) z.words (count_after n z.out)) (sym p)
+      (booked_moved c l n 0 0 0 lost (places.conn_after c x.out) x.words (count_after n x.out) e fits b)
 
 call_moved : {c d : Conn} {l k : List ℕ} {n m : ℕ} {t : Totals} → sound_b c l n ≡ true → c.debt ≤ 18446744073709551615 → Call c l n t d k m → Moved c l n t d k m
 call_moved e fits (on_data κs x c n id offset len fin r m p) = on_stream_law c x.now n e fits (record { done = r; words = m }) (data_after c x.now n id offset len fin) p (data_kept c x.now n e id offset len fin)
@@ -192,13 +194,13 @@ call_moved e fits (on_want κs x c n dir desired r m p) = on_place c x.now n e f
 call_moved e fits (on_open κs x c n dir r m p) = on_place c x.now n e fits 0 (record { out = r; words = m }) (open_after c x.now n dir) p (open_kept c x.now n e dir)
 call_moved e fits (on_rejected κs x c n r m p) = on_place c x.now n e fits (unread c.side (records n x.now)) (record { out = r; words = m }) (reject_after c x.now n) p (reject_kept c x.now n e)
 call_moved e fits (on_credit c l n k r p) =
-    subst (λ (z : Done). Moved c l n (record { charged = 0; credited = 0; extra = z.credit; lost = 0; wide = 0; narrow = 0 }) z.conn l n) (sym p)
-    (booked_moved c l n 0 0 (credit_done c k).credit 0 (credit_done c k).conn l n e fits (credit_kept c l n k e))
+    subst (λ (z : Result Done Refusal). Moved c l n (record { charged = 0; credited = 0; extra = credit_of z; lost = 0; wide = 0; narrow = 0 }) (conn_after c z) l n) (sym p)
+    (booked_moved c l n 0 0 (credit_of (credit_done c k)) 0 (conn_after c (credit_done c k)) l n e fits (credit_kept c l n k e))
 call_moved e fits (on_window c l n w r p) =
-    subst (λ (z : Done). Moved c l n (record { charged = 0; credited = 0; extra = 0; lost = 0; wide = z.conn.window - c.window; narrow = c.window - z.conn.window }) z.conn l n) (sym p)
-    (window_moved c l n 0 0 (window_done c w).conn e fits (window_kept c l n w fits e))
+    subst (λ (z : Result Done Refusal). Moved c l n (record { charged = 0; credited = 0; extra = 0; lost = 0; wide = (conn_after c z).window - c.window; narrow = c.window - (conn_after c z).window }) (conn_after c z) l n) (sym p)
+    (window_moved c l n 0 0 (conn_after c (window_done c w)) e fits (window_kept c l n w fits e))
 call_moved e fits (on_max c l n dir k r p) =
-    subst (λ (z : Done). Moved c l n nothing z.conn l n) (sym p) (booked_moved c l n 0 0 0 0 (max_done c dir k).conn l n e fits (max_kept c l n dir k e))
+    subst (λ (z : Result Done Refusal). Moved c l n nothing (conn_after c z) l n) (sym p) (booked_moved c l n 0 0 0 0 (conn_after c (max_done c dir k)) l n e fits (max_kept c l n dir k e))
 
 -- ---- the theorem
 ends_of : (ss : List Stream) → sum_of end_of ss ≡ sum_ends ss
@@ -232,22 +234,24 @@ Fresh c =
     (c.charged ≡ 0) × (c.grant ≡ min (c.window + (0 + 0) + c.debt) 4611686018427387903) × (c.window + 0 ≡ c.grant + 0) × (c.debt ≤ 18446744073709551615)
     × ((l : List ℕ) → ◌≡◌ {A = ℕ} (0 + 0) (c.closed + sum_of read_of (records 0 l)))
 
-fresh_facts : (side w sw : ℕ) → Fresh (new_done side w sw).conn
+fresh_facts : (side w sw : ℕ) (d : Done) → new_done side w sw ≡ Ok d → Fresh d.conn
 unfolding new_done records
-fresh_facts side w sw =
-    by_cond (λ (r : Done). Fresh r.conn) (ltb 1 side || (leb (2 ^ 62) w || leb (2 ^ 62) sw)) _ _
-    (λ _. (refl, refl, refl, omega arith, λ l. refl))
-    (λ q.
+fresh_facts side w sw d =
+    by_cond (λ (r : Result Done Refusal). r ≡ Ok d → Fresh d.conn) (ltb 1 side || (leb (2 ^ 62) w || leb (2 ^ 62) sw)) _ _
+    (λ _ g. absurd (cc))
+    (λ q g.
     let h : w < 2 ^ 62 = leb-false (2 ^ 62) w (or_left (leb (2 ^ 62) w) _ (or_right (ltb 1 side) _ q)) in
-    (refl, omega arith, omega arith, omega arith, λ l. refl))
+    let f : Fresh (fresh_conn side w sw) = (refl, omega arith, omega arith, omega arith, λ l. refl) in
+    let z : ◌≡◌ {A = Done} (unchanged_done (fresh_conn side w sw)) d = cc in
+    subst (λ (y : Done). Fresh y.conn) z f)
 
-fresh_books : (side w sw : ℕ) (l : List ℕ) → Books (new_done side w sw).conn.grant nothing (new_done side w sw).conn l 0
-fresh_books side w sw l =
-    let f = fresh_facts side w sw in
-    books_of_law (new_done side w sw).conn.grant nothing (new_done side w sw).conn l 0 (new_sound side w sw l) f.0 f.1 f.2 f.3 (f.4 l)
+fresh_books : (side w sw : ℕ) (l : List ℕ) (d : Done) → new_done side w sw ≡ Ok d → Books d.conn.grant nothing d.conn l 0
+fresh_books side w sw l d e =
+    let f = fresh_facts side w sw d e in
+    books_of_law d.conn.grant nothing d.conn l 0 (new_sound side w sw l d e) f.0 f.1 f.2 f.3 (f.4 l)
 
 pub books : {given : ℕ} {t : Totals} {c : Conn} {l : List ℕ} {n : ℕ} → Run given t c l n → Books given t c l n
-books (start side w sw r l p) = subst (λ (z : Done). Books z.conn.grant nothing z.conn l 0) (sym p) (fresh_books side w sw l)
+books (start side w sw d l p) = fresh_books side w sw l d (sym p)
 books (next {given} {s} {t} {c} {d} {l} {k} {n} {m} run call) =
     let b = books run in
     let v = call_moved b.sound b.debt call in

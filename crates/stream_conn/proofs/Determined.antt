@@ -8,7 +8,7 @@ use Rattle.stream_conn.proofs.Conn.good as good
 use Rattle.stream_conn.proofs.Conn.pay as pay
 use Rattle.stream_conn.proofs.Conn.raise as raise
 use Rattle.stream_conn.proofs.Conn.release as release
-use Rattle.stream_conn.proofs.Conn.refuse as refuse
+use Rattle.stream_conn.proofs.Conn.unchanged as unchanged
 use Rattle.stream_conn.proofs.new as new
 use Rattle.stream_conn.proofs.credit as credit
 use Rattle.stream_conn.proofs.window as window
@@ -35,8 +35,8 @@ raise_whole = (λ κs a. tt, λ κs a x y v w p q. (p ∙ sym q, refl))
 pub release_whole : Whole release.Kinds.ps release.Kinds.r release.Reads.Pre release.Reads.Post
 release_whole = (λ κs a. tt, λ κs a x y v w p q. (p ∙ sym q, refl))
 
-pub refuse_whole : Whole refuse.Kinds.ps refuse.Kinds.r refuse.Reads.Pre refuse.Reads.Post
-refuse_whole = (λ κs a. tt, λ κs a x y v w p q. (p ∙ sym q, refl))
+pub unchanged_whole : Whole unchanged.Kinds.ps unchanged.Kinds.r unchanged.Reads.Pre unchanged.Reads.Post
+unchanged_whole = (λ κs a. tt, λ κs a x y v w p q. (p ∙ sym q, refl))
 
 pub new_whole : Whole new.Kinds.ps new.Kinds.r new.Reads.Pre new.Reads.Post
 new_whole = (λ κs a. tt, λ κs a x y v w p q. (p ∙ sym q, refl))

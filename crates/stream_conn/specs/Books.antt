@@ -4,8 +4,9 @@
 -- `grant` is the largest offset sum that the peer may reach, and stops at the largest number that MAX_DATA can carry. `debt` is what a narrower window
 -- still has to swallow before credit raises the grant again.
 -- Assumes nothing.
-use Rattle.std.specs.Prelude.{ℕ, ◌+◌, ◌*◌, ◌-◌, ◌/◌, ◌%◌, ◌^◌, min, max, Bool, true, false, cond, ◌&&◌, ◌||◌, eqb, ltb, leb}
-use Rattle.answers.specs.Answers.{OK, RANGE, LIMIT, STATE}
+use Rattle.std.specs.Prelude.{ℕ, ◌+◌, ◌*◌, ◌-◌, ◌/◌, ◌%◌, ◌^◌, min, max, Bool, true, false, cond, ◌&&◌, ◌||◌, eqb, ltb, leb, Some, None, Result, Ok, Err}
+use Rattle.answers.specs.declared.Refusal.{Refusal}
+use Rattle.answers.specs.declared.Refusal.TheVariants.{Range, Limit, State}
 use Rattle.stream_conn.specs.declared.Counts.{Counts}
 use Rattle.stream_conn.specs.declared.Conn.{Conn}
 use Rattle.stream_conn.specs.declared.Done.{Done}
@@ -30,11 +31,11 @@ abbrev pub with_dir : Conn → ℕ → Counts → Conn
 with_dir c dir k = cond (eqb dir 1) (with_uni c k) (with_bi c k)
 
 -- ---- who may send (RFC 9000 section 2.1): ours one way, or ours not opened, STATE; the peer's past the number granted, LIMIT
-unfoldable pub admitted : Conn → ℕ → ℕ
+unfoldable pub admitted : Conn → ℕ → Result (Unit {0}) Refusal
 admitted c id =
     cond (eqb (id % 2) c.side)
-    (cond (eqb (id / 2 % 2) 1) STATE (cond (leb c.bi.next (id / 4)) STATE OK))
-    (cond (leb (counts_of c (id / 2 % 2)).rmax (id / 4)) LIMIT OK)
+    (cond (eqb (id / 2 % 2) 1) (Err State) (cond (leb c.bi.next (id / 4)) (Err State) (Ok tt)))
+    (cond (leb (counts_of c (id / 2 % 2)).rmax (id / 4)) (Err Limit) (Ok tt))
 
 -- ---- good form
 -- counts within 2^60; no stream used that was not granted; no fewer allocated than desired, and none that was not granted
@@ -70,33 +71,32 @@ windowed c w =
 
 -- ---- a stream of the peer is given up
 -- the next one is granted in its place if fewer than desired would be left; a maximum past 2^60 is RANGE
-unfoldable pub given : Counts → Given
+unfoldable pub given : Counts → Result Given Refusal
 given k =
     cond (ltb k.rwant k.ralloc)
-    (record { answer = OK; again = false; counts = record { next = k.next; max = k.max; rmax = k.rmax; ralloc = k.ralloc - 1; rwant = k.rwant; rnext = k.rnext } })
-    (cond (leb (2 ^ 60) k.rmax)
-    (record { answer = RANGE; again = false; counts = k })
-    (record { answer = OK; again = true; counts = record { next = k.next; max = k.max; rmax = k.rmax + 1; ralloc = k.ralloc; rwant = k.rwant; rnext = k.rnext } }))
+    (Ok (record { again = false; counts = record { next = k.next; max = k.max; rmax = k.rmax; ralloc = k.ralloc - 1; rwant = k.rwant; rnext = k.rnext } }))
+    (cond (leb (2 ^ 60) k.rmax) (Err Range)
+    (Ok (record { again = true; counts = record { next = k.next; max = k.max; rmax = k.rmax + 1; ralloc = k.ralloc; rwant = k.rwant; rnext = k.rnext } })))
 
 -- the id of the peer's stream with that index, of the same kind as id; 0 past the last index
 unfoldable pub alike : ℕ → ℕ → ℕ
 alike id index = cond (ltb index (2 ^ 60)) (4 * index + id % 4) 0
 
+-- what the counts that are left come to: the connection with them, and the id of the stream that is granted
+abbrev pub released_by : Conn → ℕ → Result Given Refusal → Result Release Refusal
+released_by c id (Err why) = Err why
+released_by c id (Ok g) =
+    Ok (record { granted = cond g.again (Some (alike id (counts_of c (id / 2 % 2)).rmax)) None; conn = with_dir c (id / 2 % 2) g.counts })
+
 -- the connection without the stream id, and the id of the stream that is granted for it
-unfoldable pub released : Conn → ℕ → Release
+unfoldable pub released : Conn → ℕ → Result Release Refusal
 released c id =
-    cond (eqb (id % 2) c.side) (record { answer = OK; again = false; id = 0; conn = c })
-    (record {
-      answer = (given (counts_of c (id / 2 % 2))).answer;
-      again = (given (counts_of c (id / 2 % 2))).again;
-      id = alike id (counts_of c (id / 2 % 2)).rmax;
-      conn = with_dir c (id / 2 % 2) (given (counts_of c (id / 2 % 2))).counts;
-    })
+    cond (eqb (id % 2) c.side) (Ok (record { granted = None; conn = c })) (released_by c id (given (counts_of c (id / 2 % 2))))
 
 -- ---- the calls without a table
--- nothing happens: a refusal, or OK with answer 0
-abbrev pub refused_done : Conn → ℕ → Done
-refused_done c a = record { answer = a; value = 0; charge = 0; credit = 0; free = false; conn = c }
+-- all values zero, and the connection
+abbrev pub unchanged_done : Conn → Done
+unchanged_done c = record { value = 0; charge = 0; credit = 0; free = false; conn = c }
 
 abbrev pub no_counts : Counts
 no_counts = record { next = 0; max = 0; rmax = 0; ralloc = 0; rwant = 0; rnext = 0 }
@@ -105,25 +105,25 @@ no_counts = record { next = 0; max = 0; rmax = 0; ralloc = 0; rwant = 0; rnext =
 abbrev pub fresh_conn : ℕ → ℕ → ℕ → Conn
 fresh_conn side w sw = record { side = side; bi = no_counts; uni = no_counts; charged = 0; closed = 0; grant = w; window = w; debt = 0; swindow = sw }
 
-unfoldable pub new_done : ℕ → ℕ → ℕ → Done
-new_done side w sw = cond (ltb 1 side || (leb (2 ^ 62) w || leb (2 ^ 62) sw)) (refused_done (fresh_conn 0 0 0) RANGE) (refused_done (fresh_conn side w sw) OK)
+unfoldable pub new_done : ℕ → ℕ → ℕ → Result Done Refusal
+new_done side w sw = cond (ltb 1 side || (leb (2 ^ 62) w || leb (2 ^ 62) sw)) (Err Range) (Ok (unchanged_done (fresh_conn side w sw)))
 
-unfoldable pub credit_done : Conn → ℕ → Done
+unfoldable pub credit_done : Conn → ℕ → Result Done Refusal
 credit_done c n =
-    cond (leb (2 ^ 62) n) (refused_done c RANGE)
-    (cond (good_conn c) (record { answer = OK; value = 0; charge = 0; credit = n; free = false; conn = paid c n }) (refused_done c RANGE))
+    cond (leb (2 ^ 62) n) (Err Range)
+    (cond (good_conn c) (Ok (record { value = 0; charge = 0; credit = n; free = false; conn = paid c n })) (Err Range))
 
 -- the value says whether the window is wider than before
-unfoldable pub window_done : Conn → ℕ → Done
+unfoldable pub window_done : Conn → ℕ → Result Done Refusal
 window_done c w =
-    cond (leb (2 ^ 62) w) (refused_done c RANGE)
-    (cond (good_conn c) (record { answer = OK; value = cond (ltb c.window w) 1 0; charge = 0; credit = 0; free = false; conn = windowed c w }) (refused_done c RANGE))
+    cond (leb (2 ^ 62) w) (Err Range)
+    (cond (good_conn c) (Ok (record { value = cond (ltb c.window w) 1 0; charge = 0; credit = 0; free = false; conn = windowed c w })) (Err Range))
 
 -- MAX_STREAMS of the peer: the number never falls (RFC 9000 section 4.6)
 abbrev pub allowed : Counts → ℕ → Counts
 allowed k n = record { next = k.next; max = max k.max n; rmax = k.rmax; ralloc = k.ralloc; rwant = k.rwant; rnext = k.rnext }
 
-unfoldable pub max_done : Conn → ℕ → ℕ → Done
+unfoldable pub max_done : Conn → ℕ → ℕ → Result Done Refusal
 max_done c dir n =
-    cond (ltb 1 dir || ltb (2 ^ 60) n) (refused_done c RANGE)
-    (cond (good_conn c) (refused_done (with_dir c dir (allowed (counts_of c dir) n)) OK) (refused_done c RANGE))
+    cond (ltb 1 dir || ltb (2 ^ 60) n) (Err Range)
+    (cond (good_conn c) (Ok (unchanged_done (with_dir c dir (allowed (counts_of c dir) n)))) (Err Range))

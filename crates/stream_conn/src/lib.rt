@@ -2,10 +2,10 @@
 // (01, Streams and bytes; RFC 9000 sections 2.1, 4.1 and 4.6; streams/state.rs), and the calls that need no table.
 #![tactic(auto)]
 
-ghost use Rattle.std.specs.Prelude.{◌≡◌, ℕ, ◌+◌, ◌-◌, ◌*◌, ◌/◌, ◌%◌, max, cond, ltb};
-ghost use Rattle.stream_conn.specs.Books.{counts_of, with_bi, with_uni, with_dir, admitted, good_counts, good_conn, paid, used_to, raised, windowed, given, alike, released, refused_done, fresh_conn, new_done, credit_done, window_done, allowed, max_done};
+ghost use Rattle.std.specs.Prelude.{◌≡◌};
+ghost use Rattle.stream_conn.specs.Books.{counts_of, with_bi, with_uni, with_dir, admitted, good_counts, good_conn, paid, used_to, raised, windowed, given, alike, released, unchanged_done, fresh_conn, new_done, credit_done, window_done, allowed, max_done};
 
-use answers::{LIMIT, OK, RANGE, STATE};
+use answers::Refusal;
 
 // Offsets and windows are below this (01, Limits).
 const TOP: u64 = 1 << 62;
@@ -17,7 +17,7 @@ const MOST: u64 = 4611686018427387903;
 const COUNTS: u64 = 1 << 60;
 
 // Counters of one direction.
-#[derive(Clone, Copy)]
+#[derive(Clone, Copy, Debug, PartialEq, Eq)]
 pub struct Counts {
     // Ours: the next index to open, and how many the peer allows.
     pub next: u64,
@@ -30,9 +30,9 @@ pub struct Counts {
 }
 
 // The connection record.
-#[derive(Clone, Copy)]
+#[derive(Clone, Copy, Debug, PartialEq, Eq)]
 pub struct Conn {
-    // Our side: 0 client, 1 server.
+    // Our side: 0 client, 1 server; a number and not an enum, as `new` answers RANGE for one that is neither.
     pub side: u64,
     // Streams both ways and one way.
     pub bi: Counts,
@@ -49,10 +49,10 @@ pub struct Conn {
     pub swindow: u64,
 }
 
-// What a call hands back: `free` says that the stream's place can be given back.
-#[derive(Clone, Copy)]
+// What a call hands back: `free` says that the stream's place can be given back, `value` is what the call's own line says: a number, as one type
+// serves all the calls and their events print it.
+#[derive(Clone, Copy, Debug, PartialEq, Eq)]
 pub struct Done {
-    pub answer: u8,
     pub value: u64,
     pub charge: u64,
     pub credit: u64,
@@ -63,22 +63,20 @@ pub struct Done {
 // The counts with one stream of the peer less, or the next one granted.
 #[derive(Clone, Copy)]
 pub struct Given {
-    pub answer: u8,
     pub again: bool,
     pub counts: Counts,
 }
 
-// The connection with one stream less; where `again`, the stream `id` is granted for it.
+// The connection with one stream less, and the stream that is granted for it, if one is.
 #[derive(Clone, Copy)]
 pub struct Release {
-    pub answer: u8,
-    pub again: bool,
-    pub id: u64,
+    pub granted: Option<u64>,
     pub conn: Conn,
 }
 
 impl Counts {
     // Within the limits.
+    #[tactic(auto, unfolding(crate::specs::Books::good_counts))]
     fn good(self) -> bool
         ensures { result ≡ good_counts self }
     {
@@ -94,12 +92,8 @@ impl Counts {
         ensures { result ≡ used_to self n }
     {
         Counts {
-            next: self.next,
-            max: self.max,
-            rmax: self.rmax,
-            ralloc: self.ralloc,
-            rwant: self.rwant,
-            rnext: bounded::most(self.rnext, n),
+            rnext: self.rnext.max(n),
+            ..self
         }
     }
 
@@ -108,58 +102,42 @@ impl Counts {
         ensures { result ≡ allowed self n }
     {
         Counts {
-            next: self.next,
-            max: bounded::most(self.max, n),
-            rmax: self.rmax,
-            ralloc: self.ralloc,
-            rwant: self.rwant,
-            rnext: self.rnext,
+            max: self.max.max(n),
+            ..self
         }
     }
 
     // One stream of the peer is given up: the next is granted if fewer than desired would be left.
-    fn give(self) -> Given
+    #[tactic(auto, unfolding(crate::specs::Books::given))]
+    fn give(self) -> Result<Given, Refusal>
         ensures { result ≡ given self }
     {
         if self.rwant < self.ralloc {
-            let n = Counts {
-                next: self.next,
-                max: self.max,
-                rmax: self.rmax,
+            let counts = Counts {
                 ralloc: self.ralloc - 1,
-                rwant: self.rwant,
-                rnext: self.rnext,
+                ..self
             };
-            return Given {
-                answer: OK,
+            return Ok(Given {
                 again: false,
-                counts: n,
-            };
+                counts,
+            });
         }
         if self.rmax >= COUNTS {
-            return Given {
-                answer: RANGE,
-                again: false,
-                counts: self,
-            };
+            return Err(Refusal::Range);
         }
-        let n = Counts {
-            next: self.next,
-            max: self.max,
+        let counts = Counts {
             rmax: self.rmax + 1,
-            ralloc: self.ralloc,
-            rwant: self.rwant,
-            rnext: self.rnext,
+            ..self
         };
-        Given {
-            answer: OK,
+        Ok(Given {
             again: true,
-            counts: n,
-        }
+            counts,
+        })
     }
 }
 
 // The id of the peer's stream with that index, of the same kind as `id`.
+#[tactic(auto, unfolding(crate::specs::Books::alike))]
 fn alike(id: u64, index: u64) -> u64
     ensures { result ≡ alike id index }
 {
@@ -169,17 +147,8 @@ fn alike(id: u64, index: u64) -> u64
     0
 }
 
-fn wider(old: u64, new: u64) -> u64
-    ensures { result ≡ cond (ltb old new) 1 0 }
-{
-    if old < new {
-        return 1;
-    }
-    0
-}
-
 impl Conn {
-    // The counts of a direction: 1 one way, else both ways.
+    // The counts of a direction: 1 one way, else both ways; a number and not an enum, as `max_streams` answers RANGE for one that is neither.
     pub fn counts(self, dir: u64) -> Counts
         ensures { result ≡ counts_of self dir }
     {
@@ -192,35 +161,13 @@ impl Conn {
     fn with_bi(self, k: Counts) -> Conn
         ensures { result ≡ with_bi self k }
     {
-        let uni = self.uni;
-        Conn {
-            side: self.side,
-            bi: k,
-            uni,
-            charged: self.charged,
-            closed: self.closed,
-            grant: self.grant,
-            window: self.window,
-            debt: self.debt,
-            swindow: self.swindow,
-        }
+        Conn { bi: k, ..self }
     }
 
     fn with_uni(self, k: Counts) -> Conn
         ensures { result ≡ with_uni self k }
     {
-        let bi = self.bi;
-        Conn {
-            side: self.side,
-            bi,
-            uni: k,
-            charged: self.charged,
-            closed: self.closed,
-            grant: self.grant,
-            window: self.window,
-            debt: self.debt,
-            swindow: self.swindow,
-        }
+        Conn { uni: k, ..self }
     }
 
     // The same connection with other counts of a direction.
@@ -233,28 +180,30 @@ impl Conn {
         self.with_bi(k)
     }
 
-    // May the peer send on this stream: OK, STATE or LIMIT.
-    pub fn admit(self, id: u64) -> u8
+    // May the peer send on this stream; STATE or LIMIT if not.
+    #[tactic(auto, unfolding(crate::specs::Books::admitted))]
+    pub fn admit(self, id: u64) -> Result<(), Refusal>
         ensures { result ≡ admitted self id }
     {
         let dir = (id / 2) % 2;
         if id % 2 == self.side {
             if dir == 1 {
-                return STATE;
+                return Err(Refusal::State);
             }
             if self.bi.next <= id / 4 {
-                return STATE;
+                return Err(Refusal::State);
             }
-            return OK;
+            return Ok(());
         }
         let k = self.counts(dir);
         if k.rmax <= id / 4 {
-            return LIMIT;
+            return Err(Refusal::Limit);
         }
-        OK
+        Ok(())
     }
 
     // In good form, as far as the connection record alone shows it.
+    #[tactic(auto, unfolding(crate::specs::Books::good_conn))]
     pub fn good(self) -> bool
         ensures { result ≡ good_conn self }
     {
@@ -268,25 +217,20 @@ impl Conn {
     }
 
     // Credit for `n` bytes: the debt is paid first.
+    #[tactic(auto, unfolding(crate::specs::Books::paid))]
     pub fn pay(self, n: u64) -> Conn
         ensures { result ≡ paid self n }
     {
-        let bi = self.bi;
-        let uni = self.uni;
+        let raise = n.saturating_sub(self.debt);
         Conn {
-            side: self.side,
-            bi,
-            uni,
-            charged: self.charged,
-            closed: self.closed,
-            grant: bounded::within(self.grant, bounded::less(n, self.debt), MOST),
-            window: self.window,
-            debt: bounded::less(self.debt, n),
-            swindow: self.swindow,
+            grant: self.grant.saturating_add(raise).min(MOST),
+            debt: self.debt.saturating_sub(n),
+            ..self
         }
     }
 
     // The peer has used the stream `id`.
+    #[tactic(auto, unfolding(crate::specs::Books::raised))]
     pub fn raise(self, id: u64) -> Conn
         ensures { result ≡ raised self id }
     {
@@ -298,55 +242,50 @@ impl Conn {
         self.with(dir, k)
     }
 
-    // The connection without the stream `id`, and the stream that is granted for it.
-    pub fn release(self, id: u64) -> Release
+    // The connection without the stream `id`, and the stream that is granted for it; RANGE where no more can be granted.
+    #[tactic(auto, unfolding(crate::specs::Books::released))]
+    pub fn release(self, id: u64) -> Result<Release, Refusal>
         ensures { result ≡ released self id }
     {
         if id % 2 == self.side {
-            return Release {
-                answer: OK,
-                again: false,
-                id: 0,
+            return Ok(Release {
+                granted: None,
                 conn: self,
-            };
+            });
         }
         let dir = (id / 2) % 2;
         let k = self.counts(dir);
-        let g = k.give();
-        let n = g.counts;
-        let d = self.with(dir, n);
-        Release {
-            answer: g.answer,
-            again: g.again,
-            id: alike(id, k.rmax),
-            conn: d,
+        let g = k.give()?;
+        let conn = self.with(dir, g.counts);
+        if g.again {
+            let granted = Some(alike(id, k.rmax));
+            return Ok(Release { granted, conn });
         }
+        Ok(Release {
+            granted: None,
+            conn,
+        })
     }
 
+    #[tactic(auto, unfolding(crate::specs::Books::windowed))]
     fn set_window(self, w: u64) -> Conn
         ensures { result ≡ windowed self w }
     {
-        let bi = self.bi;
-        let uni = self.uni;
+        let wider = w.saturating_sub(self.window);
+        let narrower = self.window.saturating_sub(w);
         Conn {
-            side: self.side,
-            bi,
-            uni,
-            charged: self.charged,
-            closed: self.closed,
-            grant: bounded::within(self.grant, bounded::less(w, self.window), MOST),
+            grant: self.grant.saturating_add(wider).min(MOST),
             window: w,
-            debt: bounded::within(self.debt, bounded::less(self.window, w), u64::MAX),
-            swindow: self.swindow,
+            debt: self.debt.saturating_add(narrower),
+            ..self
         }
     }
 
-    // An answer that leaves the connection as it is.
-    pub fn refuse(self, answer: u8) -> Done
-        ensures { result ≡ refused_done self answer }
+    // What a call hands back that has nothing to say but the connection.
+    pub fn unchanged(self) -> Done
+        ensures { result ≡ unchanged_done self }
     {
         Done {
-            answer,
             value: 0,
             charge: 0,
             credit: 0,
@@ -382,68 +321,63 @@ fn begin(side: u64, window: u64, swindow: u64) -> Conn
 }
 
 // A fresh connection, its window granted and no stream yet; RANGE for a side that is none or a window past the limit.
-pub fn new(side: u64, window: u64, swindow: u64) -> Done
+#[tactic(auto, unfolding(crate::specs::Books::new_done))]
+pub fn new(side: u64, window: u64, swindow: u64) -> Result<Done, Refusal>
     ensures { result ≡ new_done side window swindow }
 {
     if (side > 1) | ((window >= TOP) | (swindow >= TOP)) {
-        return begin(0, 0, 0).refuse(RANGE);
+        return Err(Refusal::Range);
     }
-    begin(side, window, swindow).refuse(OK)
+    Ok(begin(side, window, swindow).unchanged())
 }
 
 // Credit for `n` bytes that no stream of the table accounts for: the debt is paid first.
-pub fn credit(c: Conn, n: u64) -> Done
+#[tactic(auto, unfolding(crate::specs::Books::credit_done))]
+pub fn credit(c: Conn, n: u64) -> Result<Done, Refusal>
     ensures { result ≡ credit_done c n }
 {
     if n >= TOP {
-        return c.refuse(RANGE);
+        return Err(Refusal::Range);
     }
     if !c.good() {
-        return c.refuse(RANGE);
+        return Err(Refusal::Range);
     }
     let d = c.pay(n);
-    Done {
-        answer: OK,
-        value: 0,
-        charge: 0,
+    Ok(Done {
         credit: n,
-        free: false,
-        conn: d,
-    }
+        ..d.unchanged()
+    })
 }
 
 // The receive window is set: the value is 1 where it is wider than before.
-pub fn window(c: Conn, w: u64) -> Done
+#[tactic(auto, unfolding(crate::specs::Books::window_done))]
+pub fn window(c: Conn, w: u64) -> Result<Done, Refusal>
     ensures { result ≡ window_done c w }
 {
     if w >= TOP {
-        return c.refuse(RANGE);
+        return Err(Refusal::Range);
     }
     if !c.good() {
-        return c.refuse(RANGE);
+        return Err(Refusal::Range);
     }
     let d = c.set_window(w);
-    let value = wider(c.window, w);
-    Done {
-        answer: OK,
-        value,
-        charge: 0,
-        credit: 0,
-        free: false,
-        conn: d,
-    }
+    Ok(Done {
+        value: u64::from(c.window < w),
+        ..d.unchanged()
+    })
 }
 
 // The peer allows `n` streams of ours in a direction; a number below the one allowed changes nothing.
-pub fn max_streams(c: Conn, dir: u64, n: u64) -> Done
+#[tactic(auto, unfolding(crate::specs::Books::max_done))]
+pub fn max_streams(c: Conn, dir: u64, n: u64) -> Result<Done, Refusal>
     ensures { result ≡ max_done c dir n }
 {
     if (dir > 1) | (n > COUNTS) {
-        return c.refuse(RANGE);
+        return Err(Refusal::Range);
     }
     if !c.good() {
-        return c.refuse(RANGE);
+        return Err(Refusal::Range);
     }
     let k = c.counts(dir).allow(n);
-    c.with(dir, k).refuse(OK)
+    Ok(c.with(dir, k).unchanged())
 }

@@ -2,10 +2,13 @@
 -- Assumes nothing.
 use mathlib.Core.Path.{◌≡◌, refl, ap, sym, ◌∙◌}
 use mathlib.Core.Bool.{Bool, true, false, cond, ◌&&◌, ◌||◌}
-use Prim.Native.Nat.{ℕ, zero, suc, ◌+◌, ◌-◌, ◌/◌, ◌%◌, ◌^◌, ◌≤◌, ◌<◌}
+use Prim.Native.Nat.{ℕ, ◌/◌, ◌%◌, ◌^◌, ◌≤◌, ◌<◌}
 use native.Mathlib.Omega.{arith}
 use lib.Dec.{eqb, ltb, leb}
 use borrow.Author.Tests.{lt-ltb, le-ltb, le-leb, lt-leb, eq-eqb, ltb-true, ltb-false, leb-true, leb-false, eqb-true}
+use Rattle.std.specs.Prelude.{Result, Ok, Err, is_ok}
+use Rattle.answers.specs.declared.Refusal.{Refusal}
+use Rattle.answers.specs.declared.Refusal.TheVariants.{Limit, State}
 use Rattle.stream_record.specs.declared.Stream.{Stream}
 use Rattle.stream_conn.specs.declared.Counts.{Counts}
 use Rattle.stream_conn.specs.declared.Conn.{Conn}
@@ -84,17 +87,17 @@ numbers_shut s g =
 
 -- ---- a record in the table of a connection
 module _ (c : Conn) (s : Stream) where
-  pub rec_admits : good_rec c s ≡ true → admitted c s.id ≡ 0
+  pub rec_admits : good_rec c s ≡ true → is_ok (admitted c s.id) ≡ true
   unfolding good_rec
-  rec_admits e = eqb-true (admitted c s.id) 0 (and_left (eqb (admitted c s.id) 0) _ e)
+  rec_admits e = and_left (is_ok (admitted c s.id)) _ e
 
   pub rec_numbers : good_rec c s ≡ true → Numbers s
   unfolding good_rec
-  rec_numbers e = numbers_open s (and_right (eqb (admitted c s.id) 0) _ e)
+  rec_numbers e = numbers_open s (and_right (is_ok (admitted c s.id)) _ e)
 
-  pub rec_shut : admitted c s.id ≡ 0 → Numbers s → good_rec c s ≡ true
+  pub rec_shut : is_ok (admitted c s.id) ≡ true → Numbers s → good_rec c s ≡ true
   unfolding good_rec
-  rec_shut a g = and_both _ _ (eq-eqb (admitted c s.id) 0 a) (numbers_shut s g)
+  rec_shut a g = and_both _ _ a (numbers_shut s g)
 
 -- ---- the counts of a direction
 pub record Counted (k : Counts) : Type 0 where
@@ -176,25 +179,28 @@ formed_dir c dir k g h =
     (λ _. record { shut = g.shut; flow = g.flow; most = g.most; us = g.us; win = g.win; swin = g.swin; bis = h; unis = g.unis })
 
 -- ---- who may send, as facts
-zero_ten : (b : Bool) (a : ℕ) → ◌≡◌ {A = ℕ} (cond b (suc a) 0) 0 → b ≡ false
-zero_ten true a e = absurd (omega arith)
-zero_ten false a e = refl
+abbrev answer : Bool → Refusal → Result (Unit {0}) Refusal
+answer b why = cond b (Err why) (Ok tt)
 
-module _ (c : Conn) (id : ℕ) (a : admitted c id ≡ 0) where
+let_in : (b : Bool) (why : Refusal) → is_ok (answer b why) ≡ true → b ≡ false
+let_in true why e = absurd (never (sym e))
+let_in false why e = refl
+
+module _ (c : Conn) (id : ℕ) (a : is_ok (admitted c id) ≡ true) where
   pub theirs_below : eqb (id % 2) c.side ≡ false → id / 4 < (counts_of c (id / 2 % 2)).rmax
   unfolding admitted
   theirs_below n =
-      let z : ◌≡◌ {A = ℕ} (cond (leb (counts_of c (id / 2 % 2)).rmax (id / 4)) 9 0) 0 = rw n at a in
-      leb-false (counts_of c (id / 2 % 2)).rmax (id / 4) (zero_ten (leb (counts_of c (id / 2 % 2)).rmax (id / 4)) 8 z)
+      let z : is_ok (answer (leb (counts_of c (id / 2 % 2)).rmax (id / 4)) Limit) ≡ true = rw n at a in
+      leb-false (counts_of c (id / 2 % 2)).rmax (id / 4) (let_in (leb (counts_of c (id / 2 % 2)).rmax (id / 4)) Limit z)
 
   ours_case : eqb (id % 2) c.side ≡ true → (u : Bool) → eqb (id / 2 % 2) 1 ≡ u → (u ≡ false) × (id / 4 < c.bi.next)
   unfolding admitted
   ours_case n true u =
-      let z : ◌≡◌ {A = ℕ} 10 0 = rw (n, u) at a in
-      absurd (omega arith)
+      let z : false ≡ true = rw (n, u) at a in
+      absurd (never (sym z))
   ours_case n false u =
-      let z : ◌≡◌ {A = ℕ} (cond (leb c.bi.next (id / 4)) 10 0) 0 = rw (n, u) at a in
-      (refl, leb-false c.bi.next (id / 4) (zero_ten (leb c.bi.next (id / 4)) 9 z))
+      let z : is_ok (answer (leb c.bi.next (id / 4)) State) ≡ true = rw (n, u) at a in
+      (refl, leb-false c.bi.next (id / 4) (let_in (leb c.bi.next (id / 4)) State z))
 
   pub ours_below : eqb (id % 2) c.side ≡ true → (eqb (id / 2 % 2) 1 ≡ false) × (id / 4 < c.bi.next)
   ours_below n = ours_case n (eqb (id / 2 % 2) 1) refl
@@ -213,7 +219,7 @@ wider_rmax c d w dir = by_dir (eqb dir 1)
     by_dir true = w.unis
     by_dir false = w.bis
 
-admit_by : (c d : Conn) → Wider c d → (id : ℕ) → admitted c id ≡ 0 → (b : Bool) → eqb (id % 2) c.side ≡ b → admitted d id ≡ 0
+admit_by : (c d : Conn) → Wider c d → (id : ℕ) → is_ok (admitted c id) ≡ true → (b : Bool) → eqb (id % 2) c.side ≡ b → is_ok (admitted d id) ≡ true
 unfolding admitted
 admit_by c d w id a true n =
     let o = ours_below c id a n in
@@ -223,7 +229,7 @@ admit_by c d w id a false n =
     let p : eqb (id % 2) d.side ≡ false = ap (eqb (id % 2)) w.us ∙ n in
     rw (p, lt-leb (counts_of d (id / 2 % 2)).rmax (id / 4) (omega (arith, theirs_below c id a n, wider_rmax c d w (id / 2 % 2))))
 
-pub admit_wider : (c d : Conn) → Wider c d → (id : ℕ) → admitted c id ≡ 0 → admitted d id ≡ 0
+pub admit_wider : (c d : Conn) → Wider c d → (id : ℕ) → is_ok (admitted c id) ≡ true → is_ok (admitted d id) ≡ true
 admit_wider c d w id a = admit_by c d w id a (eqb (id % 2) c.side) refl
 
 -- with no fewer of a direction

@@ -2,23 +2,25 @@
 -- the words after a move hold that list.
 -- Assumes nothing.
 use mathlib.Core.Path.{◌≡◌, refl, ap, sym, ◌∙◌}
-use mathlib.Core.Logic.{inl, inr}
-use mathlib.Core.Bool.{Bool, true, false, cond, ◌&&◌, ◌||◌}
+use mathlib.Core.Logic.{inl}
+use mathlib.Core.Bool.{Bool, true, false, cond, ◌&&◌}
 use mathlib.Core.List.{List, [], ◌∷◌}
-use Prim.Native.Nat.{ℕ, zero, suc, ◌+◌, ◌*◌, ◌-◌, ◌/◌, ◌%◌, ◌^◌, ◌≤◌, ◌<◌}
+use Prim.Native.Nat.{ℕ, zero, suc, ◌+◌, ◌*◌, ◌-◌, ◌%◌, ◌≤◌, ◌<◌}
 use native.Mathlib.Numerals.{add-one}
 use native.Mathlib.Omega.{arith}
 use lib.Dec.{eqb, ltb, leb}
 use lib.ListN.{length, get_or, set}
-use borrow.Author.Tests.{lt-ltb, le-ltb, le-leb, eq-eqb, ltb-true, ltb-false, leb-true, eqb-true}
+use borrow.Author.Tests.{lt-ltb, le-leb, ltb-true, ltb-false, leb-true}
+use Rattle.std.specs.Prelude.{is_ok}
 use Rattle.stream_record.specs.declared.Stream.{Stream}
 use Rattle.stream_record.specs.Record.{none}
 use Rattle.stream_conn.specs.declared.Conn.{Conn}
 use Rattle.stream_conn.specs.Books.{admitted}
+use Rattle.stream_table.specs.declared.Stripped.{Stripped}
 use Rattle.stream_table.specs.Table.{good_rec, rec_at, put_rec, recs_from, records, put_recs, lower, upper, insert_id, inserted, removed, Left, left, strip_from, stripped}
 use Rattle.stream_table.proofs.Tables.{by_cond, and_left, and_right, store_other, store_same, length_store}
 use Rattle.stream_form.specs.Form.{sum_of, ours, end_of, read_of}
-use Rattle.stream_form.proofs.Facts.{and_both, rec_admits, rec_numbers, Numbers}
+use Rattle.stream_form.proofs.Facts.{and_both, rec_admits, rec_numbers}
 
 abbrev pub all_good : Conn → List Stream → Bool
 all_good c [] = true
@@ -81,12 +83,12 @@ rise_case s x xs low true e h k r n ih =
 rise_case s x xs low false e h k r n ih =
     and_both _ _ (le-leb low x.id k) (ih (omega (arith, n, ltb-false s.id x.id e)))
 
-pub rising_insert : (c : Conn) (s : Stream) (ss : List Stream) (low : ℕ) → rising low ss ≡ true → all_good c ss ≡ true → (admitted c s.id ≡ 0 → ⊥) → low ≤ s.id → rising low (insert_id s ss) ≡ true
+pub rising_insert : (c : Conn) (s : Stream) (ss : List Stream) (low : ℕ) → rising low ss ≡ true → all_good c ss ≡ true → (is_ok (admitted c s.id) ≡ true → ⊥) → low ≤ s.id → rising low (insert_id s ss) ≡ true
 rising_insert c s [] low e g n h = and_both _ _ (le-leb low s.id h) refl
 rising_insert c s (x ∷ xs) low e g n h =
-    let ax : admitted c x.id ≡ 0 = rec_admits c x (and_left (good_rec c x) _ g) in
+    let ax : is_ok (admitted c x.id) ≡ true = rec_admits c x (and_left (good_rec c x) _ g) in
     let r = and_right (leb low x.id) _ e in
-    rise_case s x xs low (ltb s.id x.id) refl h (leb-true low x.id (and_left (leb low x.id) _ e)) r (λ q. n (ap (admitted c) (sym q) ∙ ax))
+    rise_case s x xs low (ltb s.id x.id) refl h (leb-true low x.id (and_left (leb low x.id) _ e)) r (λ q. n (ap (λ (y : ℕ). is_ok (admitted c y)) (sym q) ∙ ax))
     (λ k. rising_insert c s xs (x.id + 1) r (and_right (good_rec c x) _ g) n k)
 
 -- ---- one record less
@@ -218,38 +220,41 @@ module _ (f : Stream → ℕ) where
   sum_same g [] e = refl
   sum_same g (s ∷ ss) e = omega (arith, e s, sum_same g ss e)
 
+abbrev pub left_with : ℕ → ℕ → List ℕ → Left Stripped
+left_with n total l = left (record { count = n; total = total }) l
+
 -- what is left after `strip`: the peer's records from the first place on, and the sum of the ends of ours
 strip_case : (side : ℕ) (l : List ℕ) (w total : ℕ) (s : Stream) (ss : List Stream) (b : Bool)
-    → ((l' : List ℕ) (w' total' : ℕ) → strip_from side l' w' total' ss ≡ left (record { answer = 0; count = w' + length (keep side ss); total = total' + sum_of (λ (x : Stream). x.end) (ours side ss) }) (put_recs l' w' (keep side ss)))
+    → ((l' : List ℕ) (w' total' : ℕ) → strip_from side l' w' total' ss ≡ left_with (w' + length (keep side ss)) (total' + sum_of (λ (x : Stream). x.end) (ours side ss)) (put_recs l' w' (keep side ss)))
     → strip_from side (cond b l (put_rec l w s)) (cond b w (w + 1)) (cond b (total + s.end) total) ss
-    ≡ left (record { answer = 0; count = w + length (cond b (keep side ss) (s ∷ keep side ss)); total = total + sum_of (λ (x : Stream). x.end) (cond b (s ∷ ours side ss) (ours side ss)) }) (put_recs l w (cond b (keep side ss) (s ∷ keep side ss)))
+    ≡ left_with (w + length (cond b (keep side ss) (s ∷ keep side ss))) (total + sum_of (λ (x : Stream). x.end) (cond b (s ∷ ours side ss) (ours side ss))) (put_recs l w (cond b (keep side ss) (s ∷ keep side ss)))
 strip_case side l w total s ss true f =
     let e : total + s.end + sum_of (λ (x : Stream). x.end) (ours side ss) ≡ total + (s.end + sum_of (λ (x : Stream). x.end) (ours side ss)) = omega arith in
-    f l w (total + s.end) ∙ ap (λ (y : ℕ). left (record { answer = 0; count = w + length (keep side ss); total = y }) (put_recs l w (keep side ss))) e
+    f l w (total + s.end) ∙ ap (λ (y : ℕ). left_with (w + length (keep side ss)) (y) (put_recs l w (keep side ss))) e
 strip_case side l w total s ss false f =
     let e : w + 1 + length (keep side ss) ≡ w + suc (length (keep side ss)) = omega arith in
     f (put_rec l w s) (w + 1) total
-    ∙ ap (λ (y : ℕ). left (record { answer = 0; count = y; total = total + sum_of (λ (x : Stream). x.end) (ours side ss) }) (put_recs (put_rec l w s) (w + 1) (keep side ss))) e
-    ∙ ap (λ (y : ℕ). left (record { answer = 0; count = w + suc (length (keep side ss)); total = total + sum_of (λ (x : Stream). x.end) (ours side ss) }) (put_recs (put_rec l w s) y (keep side ss))) (add-one w)
+    ∙ ap (λ (y : ℕ). left_with (y) (total + sum_of (λ (x : Stream). x.end) (ours side ss)) (put_recs (put_rec l w s) (w + 1) (keep side ss))) e
+    ∙ ap (λ (y : ℕ). left_with (w + suc (length (keep side ss))) (total + sum_of (λ (x : Stream). x.end) (ours side ss)) (put_recs (put_rec l w s) y (keep side ss))) (add-one w)
 
 strip_from_law : (side : ℕ) (ss : List Stream) (l : List ℕ) (w total : ℕ)
-    → strip_from side l w total ss ≡ left (record { answer = 0; count = w + length (keep side ss); total = total + sum_of (λ (x : Stream). x.end) (ours side ss) }) (put_recs l w (keep side ss))
+    → strip_from side l w total ss ≡ left_with (w + length (keep side ss)) (total + sum_of (λ (x : Stream). x.end) (ours side ss)) (put_recs l w (keep side ss))
 strip_from_law side [] l w total =
     let a : w ≡ w + 0 = omega arith in
     let b : total ≡ total + 0 = omega arith in
-    ap (λ (y : ℕ). left (record { answer = 0; count = y; total = total }) l) a ∙ ap (λ (y : ℕ). left (record { answer = 0; count = w + 0; total = y }) l) b
+    ap (λ (y : ℕ). left_with (y) (total) l) a ∙ ap (λ (y : ℕ). left_with (w + 0) (y) l) b
 strip_from_law side (s ∷ ss) l w total = strip_case side l w total s ss (eqb (s.id % 2) side) (λ l' w' t'. strip_from_law side ss l' w' t')
 
 pub stripped_is : (side : ℕ) (l : List ℕ) (n : ℕ)
-    → stripped side l n ≡ left (record { answer = 0; count = length (keep side (records n l)); total = sum_of (λ (x : Stream). x.end) (ours side (records n l)) }) (put_recs l 0 (keep side (records n l)))
+    → stripped side l n ≡ left_with (length (keep side (records n l))) (sum_of (λ (x : Stream). x.end) (ours side (records n l))) (put_recs l 0 (keep side (records n l)))
 unfolding stripped
 stripped_is side l n =
     let ks : List Stream = keep side (records n l) in
     let a : 0 + length ks ≡ length ks = omega arith in
     let b : 0 + sum_of (λ (x : Stream). x.end) (ours side (records n l)) ≡ sum_of (λ (x : Stream). x.end) (ours side (records n l)) = omega arith in
     strip_from_law side (records n l) l 0 0
-    ∙ ap (λ (y : ℕ). left (record { answer = 0; count = y; total = 0 + sum_of (λ (x : Stream). x.end) (ours side (records n l)) }) (put_recs l 0 ks)) a
-    ∙ ap (λ (y : ℕ). left (record { answer = 0; count = length ks; total = y }) (put_recs l 0 ks)) b
+    ∙ ap (λ (y : ℕ). left_with (y) (0 + sum_of (λ (x : Stream). x.end) (ours side (records n l))) (put_recs l 0 ks)) a
+    ∙ ap (λ (y : ℕ). left_with (length ks) (y) (put_recs l 0 ks)) b
 
 pub records_put : (l : List ℕ) (ss : List Stream) → 7 * length ss ≤ length l → records (length ss) (put_recs l 0 ss) ≡ ss
 unfolding records

@@ -4,40 +4,42 @@
 use mathlib.Core.Path.{◌≡◌, refl, ap, sym, ◌∙◌, subst}
 use mathlib.Core.Bool.{Bool, true, false, cond, ◌&&◌, ◌||◌}
 use mathlib.Core.List.{List, [], ◌∷◌}
-use Prim.Native.Nat.{ℕ, zero, suc, ◌+◌, ◌*◌, ◌-◌, ◌/◌, ◌%◌, ◌^◌, ◌≤◌, ◌<◌, min, max}
-use native.Mathlib.Numerals.{add-one}
+use Prim.Native.Nat.{ℕ, zero, suc, ◌+◌, ◌*◌, ◌-◌, ◌/◌, ◌%◌, ◌^◌, ◌≤◌, ◌<◌}
 use native.Mathlib.Omega.{arith}
 use lib.Dec.{eqb, ltb, leb}
 use lib.ListN.{length, get_or}
-use borrow.Author.Tests.{lt-ltb, le-leb, lt-leb, eq-eqb, ne_eqb, eqb-true, eqb-false, ltb-true, ltb-false, leb-true, leb-false}
+use borrow.Author.Tests.{lt-ltb, le-leb, lt-leb, eq-eqb, eqb-true, ltb-true, ltb-false, leb-false}
+use Rattle.std.specs.Prelude.{Option, Some, None, Result, Ok, Err, is_ok}
+use Rattle.answers.specs.declared.Refusal.{Refusal}
 use Rattle.stream_record.specs.declared.Stream.{Stream}
 use Rattle.stream_record.specs.Record.{none, fresh}
 use Rattle.stream_conn.specs.declared.Counts.{Counts}
 use Rattle.stream_conn.specs.declared.Conn.{Conn}
 use Rattle.stream_conn.specs.declared.Given.{Given}
 use Rattle.stream_conn.specs.declared.Release.{Release}
-use Rattle.stream_conn.specs.Books.{counts_of, with_bi, with_uni, with_dir, admitted, given, alike, released}
-use Rattle.stream_table.specs.declared.Found.{Found}
-use Rattle.stream_table.specs.declared.Found.TheVariants.{At, Nothing}
-use Rattle.stream_table.specs.declared.Entry.{Entry}
-use Rattle.stream_table.specs.declared.Entry.TheVariants.{No, Absent, Place}
-use Rattle.stream_table.specs.Table.{theirs, good_rec, rec_at, records, find_from, find_in, sound_b, entered, has_place, insert_id, inserted, removed, put_recs, stripped}
-use Rattle.stream_table.proofs.Tables.{by_cond, and_left, and_right, records_at, length_records}
+use Rattle.stream_conn.specs.Books.{counts_of, with_bi, with_uni, with_dir, admitted, given, alike, released_by, released}
+use Rattle.stream_table.specs.declared.Place.{Place}
+use Rattle.stream_table.specs.declared.Stripped.{Stripped}
+use Rattle.stream_table.specs.Table.{theirs, good_rec, rec_at, records, find_from, find_in, sound_b, entered, has_place, insert_id, inserted, removed, put_recs, Left}
+use Rattle.stream_table.proofs.Tables.{by_cond, and_left, records_at, length_records}
 use Rattle.stream_table.proofs.Shape.{length_put, length_inserted, length_removed, has_room, has_few}
-use Rattle.stream_table.proofs.Entries.{sound_few, sound_room, Placed, at_place, place_below}
-use Rattle.stream_places.specs.Places.{Grown, grown, changed, refused, freed, free_by, free_after, grown_by, granted, first_id, grant_after, wanted, want_after, opened, next_id, open_in, open_after, unopened, rejected_conn, rejected_by, reject_after}
-use Rattle.stream_form.specs.Form.{sum_of, end_of, read_of, ours, unread, Booked}
+use Rattle.stream_table.proofs.Entries.{sound_few, sound_room, at_place, place_below}
+use Rattle.stream_places.specs.Places.{conn_after, count_after, moved, Grown, freed, free_by, free_after, grown_by, granted, first_id, grant_after, wanted, want_after, opened, next_id, open_in, open_after, unopened, rejected_conn, rejected_by, reject_after}
+use Rattle.stream_form.specs.Form.{sum_of, read_of, ours, unread, Booked}
 use Rattle.stream_form.proofs.Facts.{or_left, or_right, Numbers, rec_admits, rec_numbers, rec_shut, Counted, Formed, formed_dir, counted_dir, theirs_below, Wider, wider_dir, theirs_side}
-use Rattle.stream_form.proofs.Lists.{drop_at, keep, all_good, read_ours, inserted_records, removed_records, good_at, good_keep, rising_keep, length_keep, sum_insert, sum_drop, sum_keep, sum_same, stripped_is, records_put}
+use Rattle.stream_form.proofs.Lists.{drop_at, keep, read_ours, inserted_records, removed_records, good_at, good_keep, rising_keep, length_keep, sum_insert, sum_drop, sum_keep, sum_same, stripped_is, records_put}
 use Rattle.stream_form.proofs.Tabled.{num, way, mine, Table, sound_form, sound_table, sound_shut, table_insert, table_drop, fresh_numbers}
 use Rattle.stream_form.proofs.Calls.{by_bool, not_booked}
 use Rattle.stream_form.proofs.Conns.{dir_booked}
 
+never_false : false ≡ true → ⊥
+never_false p = let z : ◌≡◌ {A = ℕ} 0 1 = cc in omega arith
+
 -- ---- what is found has the id that was looked for
-never : (j : ℕ) → Nothing ≡ At j → ⊥
+never : (j : ℕ) → None ≡ Some j → ⊥
 never j p = let z : ◌≡◌ {A = ℕ} 0 1 = cc in omega arith
 
-found_case : (b : Bool) (k j id : ℕ) (s : Stream) (ss : List Stream) (r : Found) → eqb s.id id ≡ b → (r ≡ At j → (suc k ≤ j) × ((get_or ss (j - suc k) none).id ≡ id)) → cond b (At k) r ≡ At j
+found_case : (b : Bool) (k j id : ℕ) (s : Stream) (ss : List Stream) (r : Option ℕ) → eqb s.id id ≡ b → (r ≡ Some j → (suc k ≤ j) × ((get_or ss (j - suc k) none).id ≡ id)) → cond b (Some k) r ≡ Some j
     → (k ≤ j) × ((get_or (s ∷ ss) (j - k) none).id ≡ id)
 found_case true k j id s ss r e f p =
     let q : k ≡ j = cc in
@@ -49,11 +51,11 @@ found_case false k j id s ss r e f p =
     let z : j - k ≡ suc (j - suc k) = omega arith in
     (omega arith, ap (λ (m : ℕ). (get_or (s ∷ ss) m none).id) z ∙ h.1)
 
-found_from : (k : ℕ) (ss : List Stream) (id j : ℕ) → find_from k ss id ≡ At j → (k ≤ j) × ((get_or ss (j - k) none).id ≡ id)
+found_from : (k : ℕ) (ss : List Stream) (id j : ℕ) → find_from k ss id ≡ Some j → (k ≤ j) × ((get_or ss (j - k) none).id ≡ id)
 found_from k [] id j e = absurd (never j e)
 found_from k (s ∷ ss) id j e = found_case (eqb s.id id) k j id s ss (find_from (suc k) ss id) refl (λ p. found_from (suc k) ss id j p) e
 
-found_id : (ss : List Stream) (id j : ℕ) → find_in ss id ≡ At j → (get_or ss j none).id ≡ id
+found_id : (ss : List Stream) (id j : ℕ) → find_in ss id ≡ Some j → (get_or ss j none).id ≡ id
 unfolding find_in
 found_id ss id j e =
     let z : j - 0 ≡ j = omega arith in
@@ -73,15 +75,15 @@ named_by r dir side h k = record { who = omega arith; way = omega arith; nth = o
 
 -- a stream of the peer's below its maximum is admitted, and one at its maximum is not
 module _ (c : Conn) (id who dir index : ℕ) (nm : Named id who dir index) (n : eqb who c.side ≡ false) where
-  pub peer_admitted : index < (counts_of c dir).rmax → admitted c id ≡ 0
+  pub peer_admitted : index < (counts_of c dir).rmax → is_ok (admitted c id) ≡ true
   unfolding admitted
   peer_admitted h = rw (nm.who, n, nm.way, nm.nth, lt-leb (counts_of c dir).rmax index h)
 
-  pub peer_over : (counts_of c dir).rmax ≤ index → admitted c id ≡ 0 → ⊥
+  pub peer_over : (counts_of c dir).rmax ≤ index → is_ok (admitted c id) ≡ true → ⊥
   unfolding admitted
   peer_over h a =
-      let z : ◌≡◌ {A = ℕ} 9 0 = rw (nm.who, n, nm.way, nm.nth, le-leb (counts_of c dir).rmax index h) at a in
-      omega arith
+      let z : false ≡ true = rw (nm.who, n, nm.way, nm.nth, le-leb (counts_of c dir).rmax index h) at a in
+      never_false z
 
   pub peer_one : (k : ℕ) → theirs c k id ≡ cond (eqb dir k) 1 0
   unfolding theirs
@@ -89,15 +91,15 @@ module _ (c : Conn) (id who dir index : ℕ) (nm : Named id who dir index) (n : 
 
 -- ours both ways
 module _ (c : Conn) (id who index : ℕ) (nm : Named id who 0 index) (n : eqb who c.side ≡ true) where
-  own_admitted : index < c.bi.next → admitted c id ≡ 0
+  own_admitted : index < c.bi.next → is_ok (admitted c id) ≡ true
   unfolding admitted
   own_admitted h = rw (nm.who, n, nm.way, nm.nth, lt-leb c.bi.next index h)
 
-  own_over : c.bi.next ≤ index → admitted c id ≡ 0 → ⊥
+  own_over : c.bi.next ≤ index → is_ok (admitted c id) ≡ true → ⊥
   unfolding admitted
   own_over h a =
-      let z : ◌≡◌ {A = ℕ} 10 0 = rw (nm.who, n, nm.way, nm.nth, le-leb c.bi.next index h) at a in
-      omega arith
+      let z : false ≡ true = rw (nm.who, n, nm.way, nm.nth, le-leb c.bi.next index h) at a in
+      never_false z
 
 own_none : (c : Conn) (id k : ℕ) → eqb (id % 2) c.side ≡ true → theirs c k id ≡ 0
 unfolding theirs
@@ -163,7 +165,7 @@ moved_booked c d l k n m e e' ch cl gr de wi rd =
     record { sound = e'; charged = omega arith; grant = omega arith; debt = omega arith; window = wi; reads = omega arith }
 
 -- ---- one more stream, of an id that was not admitted
-put_in : (c d : Conn) (l : List ℕ) (n : ℕ) (x : Stream) → sound_b c l n ≡ true → n < 256 → 7 * n + 7 ≤ length l → Formed d → Wider c d → (admitted c x.id ≡ 0 → ⊥) → admitted d x.id ≡ 0 → Numbers x → x.end ≡ 0 → x.read ≡ 0
+put_in : (c d : Conn) (l : List ℕ) (n : ℕ) (x : Stream) → sound_b c l n ≡ true → n < 256 → 7 * n + 7 ≤ length l → Formed d → Wider c d → (is_ok (admitted c x.id) ≡ true → ⊥) → is_ok (admitted d x.id) ≡ true → Numbers x → x.end ≡ 0 → x.read ≡ 0
     → d.charged ≡ c.charged → d.closed ≡ c.closed → ((b : Bool) → (way b d).ralloc ≡ mine c b x + (way b c).ralloc)
     → (sound_b d (inserted l n x) (n + 1) ≡ true) × (sum_of read_of (records (n + 1) (inserted l n x)) ≡ sum_of read_of (records n l))
 put_in c d l n x e few room f w out inn nx ze zr ch cl ra =
@@ -246,9 +248,9 @@ grow_all (suc m) c l n dir e dl few room top =
 
 module _ (c : Conn) (l : List ℕ) (n : ℕ) (e : sound_b c l n ≡ true) where
   abbrev pub KeptG : Grown → Type 0
-  KeptG x = Booked c l n 0 0 0 0 x.out.conn x.words x.out.count
+  KeptG x = Booked c l n 0 0 0 0 (conn_after c x.out) x.words (count_after n x.out)
 
-  stay : KeptG (grown (changed 0 0 n c) l)
+  stay : Booked c l n 0 0 0 0 c l n
   stay = not_booked c l n e
 
   -- the counts of a direction changed beside a table that is in good form with them
@@ -338,7 +340,7 @@ module _ (c : Conn) (l : List ℕ) (n : ℕ) (e : sound_b c l n ≡ true) (i id 
       let h : n ≤ 256 = few in
       sound_shut d (removed l n i) (n - 1) (omega arith) (omega arith) f (rw dropped t)
 
-  own_goes : eqb (id % 2) c.side ≡ true → KeptG c l n e (grown (changed 0 0 (n - 1) c) (removed l n i))
+  own_goes : eqb (id % 2) c.side ≡ true → KeptG c l n e (moved 0 (n - 1) c (removed l n i))
   own_goes q =
       moved_booked c c l (removed l n i) n (n - 1) e
       (drop_sound c (sound_form c l n e) (drop_table c (wider_refl c) refl refl (λ b m h. let z : theirs c (num b) id ≡ 0 = own_none c id (num b) q in omega arith)))
@@ -357,7 +359,7 @@ module _ (c : Conn) (l : List ℕ) (n : ℕ) (e : sound_b c l n ≡ true) (i id 
         (λ b m h. less_ra c (fewer k) (eqb (id / 2 % 2) 1) refl b m (ap (λ (y : ℕ). y + m) (sym (one_is b)) ∙ h))
 
     less_goes : (counts_of c (id / 2 % 2)).rwant < (counts_of c (id / 2 % 2)).ralloc
-        → KeptG c l n e (grown (changed 0 0 (n - 1) (with_dir c (id / 2 % 2) (fewer (counts_of c (id / 2 % 2))))) (removed l n i))
+        → KeptG c l n e (moved 0 (n - 1) (with_dir c (id / 2 % 2) (fewer (counts_of c (id / 2 % 2)))) (removed l n i))
     less_goes h =
         let k : Counts = counts_of c (id / 2 % 2) in
         let g : Counted k = counted_dir c (id / 2 % 2) (sound_form c l n e) in
@@ -379,7 +381,7 @@ module _ (c : Conn) (l : List ℕ) (n : ℕ) (e : sound_b c l n ≡ true) (i id 
         same_num false = refl
 
     next_goes : (counts_of c (id / 2 % 2)).rmax < 1152921504606846976
-        → KeptG c l n e (grown (changed 0 1 n (with_dir c (id / 2 % 2) (further (counts_of c (id / 2 % 2))))) (inserted (removed l n i) (n - 1) (fresh c.swindow (alike id (counts_of c (id / 2 % 2)).rmax))))
+        → KeptG c l n e (moved 1 n (with_dir c (id / 2 % 2) (further (counts_of c (id / 2 % 2)))) (inserted (removed l n i) (n - 1) (fresh c.swindow (alike id (counts_of c (id / 2 % 2)).rmax))))
     next_goes top =
         let δ : ℕ = id / 2 % 2 in
         let k : Counts = counts_of c δ in
@@ -425,23 +427,23 @@ module _ (c : Conn) (l : List ℕ) (n : ℕ) (e : sound_b c l n ≡ true) (i id 
         let sr : sum_of read_of (records n (inserted (removed l n i) (n - 1) x)) ≡ sum_of read_of (records n l) = omega (arith, drop_reads) in
         let s : sound_b (with_dir c δ (further k)) (inserted (removed l n i) (n - 1) x) n ≡ true = sound_shut (with_dir c δ (further k)) (inserted (removed l n i) (n - 1) x) n few (omega arith) (formed_dir c δ (further k) f g') (rw rs t') in
         let ai : nid ≡ alike id k.rmax = sym (alike_is id k.rmax top) in
-        subst (λ (y : ℕ). KeptG c l n e (grown (changed 0 1 n (with_dir c δ (further k))) (inserted (removed l n i) (n - 1) (fresh c.swindow y)))) ai
+        subst (λ (y : ℕ). KeptG c l n e (moved 1 n (with_dir c δ (further k)) (inserted (removed l n i) (n - 1) (fresh c.swindow y)))) ai
         (dir_moved c l n e δ (further k) (inserted (removed l n i) (n - 1) x) n s sr)
 
   freed_kept : KeptG c l n e (freed c l n i (released c id))
-  unfolding released given freed
+  unfolding released given
   freed_kept =
       let k : Counts = counts_of c (id / 2 % 2) in
-      by_cond (λ (r : Release). KeptG c l n e (freed c l n i r)) (eqb (id % 2) c.side) _ _ (λ q. own_goes q)
-      (λ q. by_cond (λ (g : Given). KeptG c l n e (freed c l n i (record { answer = g.answer; again = g.again; id = alike id k.rmax; conn = with_dir c (id / 2 % 2) g.counts }))) (ltb k.rwant k.ralloc) _ _
+      by_cond (λ (r : Result Release Refusal). KeptG c l n e (freed c l n i r)) (eqb (id % 2) c.side) _ _ (λ q. own_goes q)
+      (λ q. by_cond (λ (g : Result Given Refusal). KeptG c l n e (freed c l n i (released_by c id g))) (ltb k.rwant k.ralloc) _ _
       (λ a. less_goes q (ltb-true k.rwant k.ralloc a))
-      (λ _. by_cond (λ (g : Given). KeptG c l n e (freed c l n i (record { answer = g.answer; again = g.again; id = alike id k.rmax; conn = with_dir c (id / 2 % 2) g.counts }))) (leb (2 ^ 60) k.rmax) _ _
+      (λ _. by_cond (λ (g : Result Given Refusal). KeptG c l n e (freed c l n i (released_by c id g))) (leb (2 ^ 60) k.rmax) _ _
       (λ _. stay c l n e)
       (λ b. next_goes q (leb-false (2 ^ 60) k.rmax b))))
 
 module _ (c : Conn) (l : List ℕ) (n : ℕ) (e : sound_b c l n ≡ true) where
   -- a place whose halves are both over has nothing to its charge
-  over : (id i : ℕ) (s : Stream) → i < n → find_in (records n l) id ≡ At i → s ≡ rec_at l i → s.phase ≡ 0 → Over c l n i id
+  over : (id i : ℕ) (s : Stream) → i < n → find_in (records n l) id ≡ Some i → s ≡ rec_at l i → s.phase ≡ 0 → Over c l n i id
   over id i s h fd is z =
       let lt : i < length (records n l) = omega (arith, length_records n l) in
       let at : get_or (records n l) i none ≡ rec_at l i = records_at n l i h in
@@ -452,13 +454,13 @@ module _ (c : Conn) (l : List ℕ) (n : ℕ) (e : sound_b c l n ≡ true) where
       let rd : (get_or (records n l) i none).read ≤ (get_or (records n l) i none).end = g.re in
       record { below = h; inside = lt; named = found_id (records n l) id i fd; ends = omega arith; reads = omega arith }
 
-  by_kept : (id : ℕ) (x : Entry) → x ≡ entered c l n id → KeptG c l n e (free_by c l n id x)
-  by_kept id (No a) ex = stay c l n e
-  by_kept id Absent ex = stay c l n e
-  by_kept id (Place i s) ex =
+  by_kept : (id : ℕ) (x : Result (Option Place) Refusal) → x ≡ entered c l n id → KeptG c l n e (free_by c l n id x)
+  by_kept id (Err why) ex = stay c l n e
+  by_kept id (Ok None) ex = stay c l n e
+  by_kept id (Ok (Some p)) ex =
       let q = at_place c l n id ex refl in
-      by_cond (KeptG c l n e) (eqb s.phase 0 && eqb s.sending 0) _ _
-      (λ p. freed_kept c l n e i id (over id i s (place_below c l n id ex refl) q.found q.is (eqb-true s.phase 0 (and_left (eqb s.phase 0) _ p))))
+      by_cond (KeptG c l n e) (eqb p.stream.phase 0 && eqb p.stream.sending 0) _ _
+      (λ h. freed_kept c l n e p.at id (over id p.at p.stream (place_below c l n id ex refl) q.found q.is (eqb-true p.stream.phase 0 (and_left (eqb p.stream.phase 0) _ h))))
       (λ _. stay c l n e)
 
   pub free_kept : (id : ℕ) → KeptG c l n e (free_after c l n id)
@@ -470,7 +472,7 @@ module _ (c : Conn) (l : List ℕ) (n : ℕ) (e : sound_b c l n ≡ true) where
   open_counted k g h = record { own = omega (arith, g.may); may = g.may; used = g.used; top = g.top; want = g.want; have = g.have }
 
   open_both : c.bi.next < c.bi.max → has_place l n ≡ true
-      → KeptG c l n e (grown (changed 0 (next_id c 0 c.bi) (n + 1) (with_bi c (opened c.bi))) (inserted l n (fresh c.swindow (next_id c 0 c.bi))))
+      → KeptG c l n e (moved (next_id c 0 c.bi) (n + 1) (with_bi c (opened c.bi)) (inserted l n (fresh c.swindow (next_id c 0 c.bi))))
   open_both h p =
       let f : Formed c = sound_form c l n e in
       let k : Counts = c.bi in
@@ -572,14 +574,11 @@ module _ (c : Conn) (l : List ℕ) (n : ℕ) (e : sound_b c l n ≡ true) where
       }
 
   abbrev pub KeptR : Grown → Type 0
-  KeptR x = Booked c l n 0 0 0 (unread c.side (records n l)) x.out.conn x.words x.out.count
-
-  never_false : false ≡ true → ⊥
-  never_false p = let z : ◌≡◌ {A = ℕ} 0 1 = cc in omega arith
+  KeptR x = Booked c l n 0 0 0 (unread c.side (records n l)) (conn_after c x.out) x.words (count_after n x.out)
 
   pub reject_kept : KeptR (reject_after c l n)
   unfolding reject_after
   reject_kept =
       by_cond KeptR (sound_b c l n) _ _
-      (λ _. subst (λ x. KeptR (rejected_by c n x)) (sym (stripped_is c.side l n)) rejected_booked)
+      (λ _. subst (λ (x : Left Stripped). KeptR (rejected_by c n x)) (sym (stripped_is c.side l n)) rejected_booked)
       (λ q. absurd (never_false (sym q ∙ e)))

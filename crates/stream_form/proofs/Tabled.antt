@@ -1,24 +1,25 @@
 -- A table in good form as facts about its list of records, and that each move of the list keeps them, with the connection moved beside it.
 -- Assumes nothing.
 use mathlib.Core.Path.{◌≡◌, refl, ap, sym, ◌∙◌}
-use mathlib.Core.Bool.{Bool, true, false, cond, ◌&&◌, ◌||◌}
+use mathlib.Core.Bool.{Bool, true, false, cond, ◌||◌}
 use mathlib.Core.List.{List, [], ◌∷◌}
 use Prim.Native.Nat.{ℕ, zero, suc, ◌+◌, ◌*◌, ◌-◌, ◌/◌, ◌%◌, ◌^◌, ◌≤◌, ◌<◌}
 use native.Mathlib.Omega.{arith}
-use lib.Dec.{eqb, ltb, leb}
+use lib.Dec.{eqb, leb}
 use lib.ListN.{length, get_or, set}
 use borrow.Author.Tests.{le-leb, eq-eqb, leb-true, eqb-true}
+use Rattle.std.specs.Prelude.{is_ok}
 use Rattle.stream_record.specs.declared.Stream.{Stream}
 use Rattle.stream_record.specs.Record.{none, fresh}
 use Rattle.stream_conn.specs.declared.Counts.{Counts}
 use Rattle.stream_conn.specs.declared.Conn.{Conn}
-use Rattle.stream_conn.specs.Books.{counts_of, with_bi, with_uni, with_dir, admitted, good_conn}
-use Rattle.stream_table.specs.Table.{theirs, good_rec, good_from, sum_ends, records, sound_b, insert_id}
-use Rattle.stream_table.proofs.Tables.{by_cond, and_left, and_right}
-use Rattle.stream_table.proofs.Entries.{sound_few, sound_room, sound_conn, sound_both}
+use Rattle.stream_conn.specs.Books.{admitted, good_conn}
+use Rattle.stream_table.specs.Table.{theirs, good_rec, good_from, records, sound_b, insert_id}
+use Rattle.stream_table.proofs.Tables.{and_left, and_right}
+use Rattle.stream_table.proofs.Entries.{sound_conn, sound_both}
 use Rattle.stream_form.specs.Form.{sum_of}
 use Rattle.stream_form.proofs.Facts.{and_both, Numbers, rec_admits, rec_numbers, rec_shut, Formed, formed_open, formed_shut, Wider, admit_wider, theirs_side}
-use Rattle.stream_form.proofs.Lists.{all_good, rising, keep, drop_at, good_insert, rising_insert, good_drop, rising_drop, good_set, rising_set, good_all, good_keep, rising_keep, sum_insert, sum_drop, sum_put, sum_keep, sum_same}
+use Rattle.stream_form.proofs.Lists.{all_good, rising, drop_at, good_insert, rising_insert, good_drop, rising_drop, good_set, rising_set, good_all, sum_insert, sum_drop, sum_put, sum_same}
 
 -- a direction by a truth value: true one way
 abbrev pub num : Bool → ℕ
@@ -118,7 +119,7 @@ module _ (c d : Conn) (w : Wider c d) (ss : List Stream) (t : Table c ss) where
   pub table_set : (i : ℕ) (x : Stream) → i < length ss → x.id ≡ (get_or ss i none).id → Numbers x → d.closed + x.end + c.charged ≡ d.charged + (c.closed + (get_or ss i none).end)
       → ((b : Bool) → (way b d).ralloc ≡ (way b c).ralloc) → good_rec c (get_or ss i none) ≡ true → Table d (set ss i x)
   table_set i x h ei nx bal ra g =
-      let gx : good_rec d x ≡ true = rec_shut d x (ap (admitted d) ei ∙ rec_admits d (get_or ss i none) (wider_good (get_or ss i none) g)) nx in
+      let gx : good_rec d x ≡ true = rec_shut d x (ap (λ (y : ℕ). is_ok (admitted d y)) ei ∙ rec_admits d (get_or ss i none) (wider_good (get_or ss i none) g)) nx in
       record {
         all = good_set d ss i x all_wider gx;
         up = rising_set 0 ss i x ei h t.up;
@@ -130,7 +131,7 @@ module _ (c d : Conn) (w : Wider c d) (ss : List Stream) (t : Table c ss) where
       }
 
   -- one more, of an id that was not admitted
-  pub table_insert : (x : Stream) → (admitted c x.id ≡ 0 → ⊥) → admitted d x.id ≡ 0 → Numbers x → x.end ≡ 0 → d.charged ≡ c.charged → d.closed ≡ c.closed
+  pub table_insert : (x : Stream) → (is_ok (admitted c x.id) ≡ true → ⊥) → is_ok (admitted d x.id) ≡ true → Numbers x → x.end ≡ 0 → d.charged ≡ c.charged → d.closed ≡ c.closed
       → ((b : Bool) → (way b d).ralloc ≡ mine c b x + (way b c).ralloc) → Table d (insert_id x ss)
   table_insert x fresh-id ad nx z ch cl ra =
       record {

@@ -1,9 +1,11 @@
 -- What is kept, and what the bytes of a table come to.
 -- Assumes nothing.
-use Rattle.std.specs.Prelude.{ℕ, ◌+◌, ◌-◌, ◌%◌, min, true, cond, eqb, ◌≡◌, List, [], ◌∷◌}
+use Rattle.std.specs.Prelude.{ℕ, ◌+◌, ◌-◌, ◌%◌, min, true, cond, eqb, ◌≡◌, List, [], ◌∷◌, Result, Ok, Err}
 use Rattle.stream_record.specs.declared.Stream.{Stream}
 use Rattle.stream_table.specs.Table.{sound_b, records}
+use Rattle.answers.specs.declared.Refusal.{Refusal}
 use Rattle.stream_conn.specs.declared.Conn.{Conn}
+use Rattle.stream_conn.specs.declared.Done.{Done}
 use Rattle.stream_conn.specs.Books.{MOST}
 
 -- a number of each record, added up
@@ -25,6 +27,15 @@ ours side (s ∷ ss) = cond (eqb (s.id % 2) side) (s ∷ ours side ss) (ours sid
 
 abbrev pub unread : ℕ → List Stream → ℕ
 unread side ss = sum_of end_of (ours side ss) - sum_of read_of (ours side ss)
+
+-- bytes that a call charges and credits: none where it is refused
+abbrev pub charge_of : Result Done Refusal → ℕ
+charge_of (Ok d) = d.charge
+charge_of (Err why) = 0
+
+abbrev pub credit_of : Result Done Refusal → ℕ
+credit_of (Ok d) = d.credit
+credit_of (Err why) = 0
 
 -- a call that took the connection c with the n records of l to d with the m records of k: good form again; `charge` bytes charged; `credit` bytes
 -- credited to streams and `extra` bytes beside them, which pay the debt and then raise the grant; `lost` bytes that nobody will credit

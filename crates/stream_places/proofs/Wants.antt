@@ -1,52 +1,50 @@
 -- The grant, case by case, and its loop: what is left comes to the whole.
 -- Assumes nothing.
 use mathlib.Core.Path.{◌≡◌, refl, ap, sym, ◌∙◌}
-use mathlib.Core.Bool.{Bool, true, false, cond, ◌&&◌, ◌||◌, not}
-use mathlib.Core.List.{List, [], ◌∷◌}
-use Prim.Native.Nat.{ℕ, zero, suc, ◌+◌, ◌*◌, ◌-◌, ◌/◌, ◌%◌, ◌^◌, ◌≤◌, ◌<◌}
+use mathlib.Core.Bool.{Bool, true, false, ◌||◌, not}
+use mathlib.Core.List.{List}
+use Prim.Native.Nat.{ℕ, suc, ◌+◌, ◌*◌, ◌-◌, ◌^◌, ◌≤◌, ◌<◌}
 use native.Mathlib.Omega.{arith}
 use lib.Dec.{eqb, ltb, leb}
 use lib.ListN.{length}
-use borrow.Author.Tests.{lt-ltb, le-ltb, le-leb, lt-leb, eq-eqb, ne_eqb, ltb-true, ltb-false, leb-true, leb-false, eqb-true, not-true, not-false}
+use borrow.Author.Tests.{ltb-true, ltb-false, leb-true, not-false}
 use Rattle.stream_record.specs.declared.Stream.{Stream}
 use Rattle.stream_record.specs.Record.{fresh}
 use Rattle.stream_conn.specs.declared.Counts.{Counts}
 use Rattle.stream_conn.specs.declared.Conn.{Conn}
-use Rattle.stream_conn.specs.declared.Release.{Release}
-use Rattle.stream_conn.specs.Books.{counts_of, with_dir, released, good_counts, good_conn}
-use Rattle.stream_table.specs.declared.Entry.{Entry}
-use Rattle.stream_table.specs.declared.Entry.TheVariants.{No, Absent, Place}
-use Rattle.stream_table.specs.declared.Stripped.{Stripped}
-use Rattle.stream_table.specs.Table.{sound_b, sum_ends, records, entered, has_place, inserted, inserted_at, removed, removed_at, Left, left, strip_from, stripped, strip_after}
+use Rattle.stream_conn.specs.Books.{counts_of, good_counts, good_conn}
+use Rattle.stream_table.specs.Table.{sound_b, inserted, inserted_at}
 use Rattle.stream_table.proofs.Tables.{by_cond, and_left, and_right}
-use Rattle.stream_table.proofs.Shape.{inserted_is, removed_is, length_inserted, length_removed, has_room, has_few}
-use Rattle.stream_table.proofs.Entries.{place_below, place_few, place_all, sound_few, sound_room, sound_conn, sound_sum, sound_flow, conn_most}
-use Rattle.stream_places.specs.declared.Changed.{Changed}
-use Rattle.stream_places.specs.Places.{Grown, grown, changed, refused, freed, free_by, free_after, grown_by, granted, first_id, grant_after, wanted, want_after, opened, next_id, open_in, open_after, unopened, rejected_conn, rejected_by, reject_after}
+use Rattle.stream_table.proofs.Shape.{inserted_is, length_inserted}
+use Rattle.stream_table.proofs.Entries.{sound_few, sound_conn}
+use Rattle.stream_places.specs.Places.{grown_by}
 
 -- ---- `grow`
-module _ (w : ℕ) (l : List ℕ) (n id left : ℕ) {f : List ℕ} (v : grown_by w l n id left ≡ f) where
-  pub grow_turn : {t : Stream} {l' : List ℕ} → 0 < left → n + left ≤ 256 → 7 * (n + left) ≤ length l → t ≡ fresh w id → l' ≡ inserted_at l n t → grown_by w l' (n + 1) (id + 4) (left - 1) ≡ f
-  grow_turn {t} h few room et el =
-      let z : left ≡ suc (left - 1) = omega arith in
-      ap (λ (k : List ℕ). grown_by w k (n + 1) (id + 4) (left - 1)) (el ∙ inserted_is l n t (omega arith) (omega arith) ∙ ap (inserted l n) et) ∙ ap (grown_by w l n id) (sym z) ∙ v
+-- what is left of the loop after i turns comes to the whole
+pub grow_start : (w : ℕ) (l : List ℕ) (n id k : ℕ) → grown_by w l (n + 0) (id + 4 * 0) (k - 0) ≡ grown_by w l n id k
+grow_start w l n id k =
+    let a : n + 0 ≡ n = omega arith in
+    let b : id + 4 * 0 ≡ id = omega arith in
+    let d : k - 0 ≡ k = omega arith in
+    rw (a, b, d)
 
-  pub grow_done : left ≤ 0 → l ≡ f
+module _ (w : ℕ) (l : List ℕ) (n id k i : ℕ) {f : List ℕ} (v : grown_by w l (n + i) (id + 4 * i) (k - i) ≡ f) where
+  pub grow_turn : {t : Stream} {l' : List ℕ} → i < k → n + k ≤ 256 → 7 * (n + k) ≤ length l → t ≡ fresh w (id + 4 * i) → l' ≡ inserted_at l (n + i) t
+      → grown_by w l' (n + (i + 1)) (id + 4 * (i + 1)) (k - (i + 1)) ≡ f
+  grow_turn {t} h few room et el =
+      let z : k - i ≡ suc (k - (i + 1)) = omega arith in
+      let a : n + (i + 1) ≡ n + i + 1 = omega arith in
+      let b : id + 4 * (i + 1) ≡ id + 4 * i + 4 = omega arith in
+      let e = el ∙ inserted_is l (n + i) t (omega arith) (omega arith) ∙ ap (inserted l (n + i)) et in
+      (rw (a, b, e)) ∙ ap (grown_by w l (n + i) (id + 4 * i)) (sym z) ∙ v
+
+  pub grow_done : k ≤ i → l ≡ f
   grow_done h =
-      let z : left ≡ 0 = omega arith in
-      ap (grown_by w l n id) (sym z) ∙ v
+      let z : k - i ≡ 0 = omega arith in
+      ap (grown_by w l (n + i) (id + 4 * i)) (sym z) ∙ v
 
 pub grow_length : (l : List ℕ) (n : ℕ) (t : Stream) {l' : List ℕ} → n < 256 → 7 * n + 7 ≤ length l → l' ≡ inserted_at l n t → length l' ≡ length l
 grow_length l n t h k e = length_inserted l n t (e ∙ inserted_is l n t h k)
-
--- ---- `grant`
-pub grant_is : (c : Conn) (l : List ℕ) (n dir desired : ℕ) (k : Counts) (new : ℕ) {l' : List ℕ} {d : Conn} {r : Changed}
-    → l' ≡ grown_by c.swindow l n (4 * k.rmax + 2 * dir + (1 - c.side)) new → d ≡ with_dir c dir (granted k desired new) → r ≡ changed 0 new (n + new) d
-    → grown r l' ≡ grant_after c l n dir desired k new
-unfolding grant_after
-grant_is c l n dir desired k new el ed er = rw (er, el, ed)
-
-pub ruleset grants = (grant_is)
 
 -- ---- `want`
 or_left : (a b : Bool) → (a || b) ≡ false → a ≡ false
@@ -90,48 +88,19 @@ ready c l n dir {g} eg e {k} ek =
     let tp = counts_top k gk in
     record { few = sound_few c l n s; us = ltb-true c.side 2 t.0; top = tp.0; own = counts_own k gk; less = tp.1 }
 
-module _ (c : Conn) (l : List ℕ) (n dir desired : ℕ) where
-  pub want_args : {r : Changed} → (ltb 1 dir || ltb (2 ^ 60) desired) ≡ true → r ≡ changed 2 0 n c → grown r l ≡ want_after c l n dir desired
-  unfolding want_after
-  want_args h er = rw (er, h)
+module _ (c : Conn) (l : List ℕ) (n dir desired : ℕ) {g : Bool} (h : (ltb 1 dir || ltb (2 ^ 60) desired) ≡ false) (eg : g ≡ sound_b c l n) (e : not g ≡ false)
+    {k : Counts} {m q : ℕ} (ek : k ≡ counts_of c dir) (em : m ≡ desired - k.ralloc) (eq : q ≡ 2 ^ 60 - k.rmax) (a : m ≤ q) where
+  pub want_sum : n + m < 18446744073709551616
+  want_sum =
+      let w = ready c l n dir eg e ek in
+      omega (arith, w.few, w.top)
 
-  module _ {g : Bool} (h : (ltb 1 dir || ltb (2 ^ 60) desired) ≡ false) (eg : g ≡ sound_b c l n) where
-    pub want_bad : {r : Changed} → not g ≡ true → r ≡ changed 2 0 n c → grown r l ≡ want_after c l n dir desired
-    unfolding want_after
-    want_bad e er = rw (er, h, ← eg, not-true g e)
+  pub want_mul : 7 * (n + m) < 18446744073709551616
+  want_mul =
+      let w = ready c l n dir eg e ek in
+      omega (arith, w.few, w.top)
 
-    module _ {k : Counts} {m q : ℕ} (e : not g ≡ false) (ek : k ≡ counts_of c dir) (em : m ≡ desired - k.ralloc) (eq : q ≡ 2 ^ 60 - k.rmax) where
-      on_want : wanted c l n dir desired k m ≡ want_after c l n dir desired
-      unfolding want_after
-      on_want = rw (h, ← eg, not-false g e, ← ek, ← em)
-
-      pub want_top : {r : Changed} → q < m → r ≡ changed 2 0 n c → grown r l ≡ want_after c l n dir desired
-      unfolding wanted
-      want_top a er = (rw (er, lt-ltb (2 ^ 60 - k.rmax) m (rw eq at a))) ∙ on_want
-
-      module _ (a : m ≤ q) where
-        pub want_sum : n + m < 18446744073709551616
-        want_sum =
-            let w = ready c l n dir eg e ek in
-            omega (arith, w.few, w.top)
-
-        pub want_mul : 7 * (n + m) < 18446744073709551616
-        want_mul =
-            let w = ready c l n dir eg e ek in
-            omega (arith, w.few, w.top)
-
-        pub want_full : {r : Changed} → (ltb 256 (n + m) || ltb (length l) (7 * (n + m))) ≡ true → r ≡ changed 5 0 n c → grown r l ≡ want_after c l n dir desired
-        unfolding wanted
-        want_full b er = (rw (er, le-ltb (2 ^ 60 - k.rmax) m (rw eq at a), b)) ∙ on_want
-
-        module _ (b : (ltb 256 (n + m) || ltb (length l) (7 * (n + m))) ≡ false) where
-          pub want_done : {y : Grown} → y ≡ grant_after c l n dir desired k m → y ≡ want_after c l n dir desired
-          unfolding wanted
-          want_done ey = ey ∙ (rw (le-ltb (2 ^ 60 - k.rmax) m (rw eq at a), b)) ∙ on_want
-
-          pub want_fits : (n + m ≤ 256) × (7 * (n + m) ≤ length l) × (k.rmax + m ≤ 1152921504606846976) × (k.ralloc ≤ k.rmax) × (dir ≤ 1) × (c.side ≤ 1)
-          want_fits =
-              let w = ready c l n dir eg e ek in
-              (ltb-false 256 (n + m) (or_left (ltb 256 (n + m)) _ b), ltb-false (length l) (7 * (n + m)) (or_second (ltb 256 (n + m)) _ b), omega (arith, w.top), w.less, ltb-false 1 dir (or_left (ltb 1 dir) _ h), omega (arith, w.us))
-
-pub ruleset wants = (want_args, want_bad, want_top, want_sum, want_mul, want_full, want_done)
+  pub want_fits : (ltb 256 (n + m) || ltb (length l) (7 * (n + m))) ≡ false → (n + m ≤ 256) × (7 * (n + m) ≤ length l) × (k.rmax + m ≤ 1152921504606846976) × (k.ralloc ≤ k.rmax) × (dir ≤ 1) × (c.side ≤ 1)
+  want_fits b =
+      let w = ready c l n dir eg e ek in
+      (ltb-false 256 (n + m) (or_left (ltb 256 (n + m)) _ b), ltb-false (length l) (7 * (n + m)) (or_second (ltb 256 (n + m)) _ b), omega (arith, w.top), w.less, ltb-false 1 dir (or_left (ltb 1 dir) _ h), omega (arith, w.us))

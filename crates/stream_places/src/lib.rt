@@ -3,42 +3,29 @@
 // record and the whole table first; a refusal leaves both as they were.
 #![tactic(auto)]
 
-ghost use Rattle.std.specs.Prelude.{◌≡◌, ℕ, ◌+◌, ◌*◌, ◌<◌, ◌≤◌, length};
+ghost use Rattle.std.specs.Prelude.{◌≡◌, ℕ, ◌+◌, ◌*◌, ◌<◌, ◌≤◌, length, Ok};
 ghost use Rattle.stream_places.specs.Places.{grown, changed, freed, free_after, grown_by, granted, grant_after, want_after, opened, open_after, unopened, rejected_conn, reject_after};
 
-use answers::{FULL, LIMIT, OK, ORDER, RANGE};
+use answers::Refusal;
 use stream_conn::{Conn, Counts, Release};
 use stream_record::Stream;
-use stream_table::Entry;
+use stream_table::{PLACES, WIDTH};
 
 // Counts of streams are at most this (01, Limits).
 const COUNTS: u64 = 1 << 60;
 
-// What a call that moves places hands back.
+// What a call that moves places hands back; `value` is what the call's own line says, an id, a count or one of 0 and 1, so a number.
 #[derive(Clone, Copy)]
 pub struct Changed {
-    pub answer: u8,
     pub value: u64,
     pub count: usize,
     pub conn: Conn,
 }
 
-fn unmoved(c: Conn, answer: u8, count: usize) -> Changed
-    ensures { result ≡ changed answer 0 count c }
-{
-    Changed {
-        answer,
-        value: 0,
-        count,
-        conn: c,
-    }
-}
-
 fn moved(c: Conn, value: u64, count: usize) -> Changed
-    ensures { result ≡ changed 0 value count c }
+    ensures { result ≡ changed value count c }
 {
     Changed {
-        answer: OK,
         value,
         count,
         conn: c,
@@ -48,39 +35,31 @@ fn moved(c: Conn, value: u64, count: usize) -> Changed
 // The place `i` is given back, and the stream that is granted for it comes in.
 fn give_back(c: Conn, table: &mut [u64], count: usize, i: usize, g: Release) -> Changed
     requires { (i < count) × (count ≤ 256) × (7 * count ≤ length table.old) }
-    ensures { grown result table.new ≡ freed c table.old count i g }
+    ensures { grown (Ok result) table.new ≡ freed c table.old count i (Ok g) }
 {
-    if g.answer != 0 {
-        return unmoved(c, g.answer, count);
-    }
-    let d = g.conn;
     stream_table::remove(table, count, i);
     let n = count - 1;
-    if g.again {
-        let t = Stream::new(c.swindow, g.id);
-        stream_table::insert(table, n, t);
-        return moved(d, 1, count);
-    }
-    moved(d, 0, n)
+    let Some(next) = g.granted else {
+        return moved(g.conn, 0, n);
+    };
+    stream_table::insert(table, n, Stream::new(c.swindow, next));
+    moved(g.conn, 1, count)
 }
 
 // The place of a stream whose halves are both over is given back: the value is 1 where the next stream was granted for it.
-pub fn free(c: Conn, table: &mut [u64], count: usize, id: u64) -> Changed
+#[tactic(auto, unfolding(crate::specs::Places::free_after))]
+pub fn free(c: Conn, table: &mut [u64], count: usize, id: u64) -> Result<Changed, Refusal>
     ensures { grown result table.new ≡ free_after c table.old count id }
 {
-    let x = stream_table::enter(c, table, count, id);
-    match x {
-        Entry::No(a) => unmoved(c, a, count),
-        Entry::Absent => unmoved(c, ORDER, count),
-        Entry::Place(i, s) => {
-            let ready = (s.phase == 0) & (s.sending == 0);
-            if !ready {
-                return unmoved(c, ORDER, count);
-            }
-            let g = c.release(id);
-            give_back(c, table, count, i, g)
-        }
+    let Some(place) = stream_table::enter(c, table, count, id)? else {
+        return Err(Refusal::Order);
+    };
+    let ready = (place.stream.phase == 0) & (place.stream.sending == 0);
+    if !ready {
+        return Err(Refusal::Order);
     }
+    let g = c.release(id)?;
+    Ok(give_back(c, table, count, place.at, g))
 }
 
 // `k` fresh records more, of ids `id`, `id` + 4, ..
@@ -88,19 +67,13 @@ fn grow(w: u64, table: &mut [u64], count: usize, id: u64, k: u64)
     requires { (count + k ≤ 256) × (7 * (count + k) ≤ length table.old) × (id + 4 * k < 18446744073709551616) }
     ensures { table.new ≡ grown_by w table.old count id k }
 {
-    let mut n = count;
-    let mut at = id;
-    let mut left = k;
-    while left > 0 {
-        let t = Stream::new(w, at);
-        stream_table::insert(table, n, t);
-        n += 1;
-        at += 4;
-        left -= 1;
+    for i in 0..k {
+        stream_table::insert(table, count + i as usize, Stream::new(w, id + 4 * i));
     }
 }
 
 // `new` streams more of the peer's, in the table and in the counts `k`.
+#[tactic(auto, unfolding(crate::specs::Places::grant_after))]
 fn grant(
     c: Conn,
     table: &mut [u64],
@@ -111,42 +84,47 @@ fn grant(
     new: u64,
 ) -> Changed
     requires { (count + new ≤ 256) × (7 * (count + new) ≤ length table.old) × (k.rmax + new ≤ 1152921504606846976) × (k.ralloc ≤ k.rmax) × (dir ≤ 1) × (c.side ≤ 1) }
-    ensures { grown result table.new ≡ grant_after c table.old count dir desired k new }
+    ensures { grown (Ok result) table.new ≡ grant_after c table.old count dir desired k new }
 {
     let id = 4 * k.rmax + 2 * dir + (1 - c.side);
     grow(c.swindow, table, count, id, new);
     let g = Counts {
-        next: k.next,
-        max: k.max,
         rmax: k.rmax + new,
         ralloc: k.ralloc + new,
         rwant: desired,
-        rnext: k.rnext,
+        ..k
     };
     let d = c.with(dir, g);
     moved(d, new, count + new as usize)
 }
 
 // As many streams of the peer as are desired in a direction: the value is how many were granted, all or none.
-pub fn want(c: Conn, table: &mut [u64], count: usize, dir: u64, desired: u64) -> Changed
+#[tactic(auto, unfolding(crate::specs::Places::want_after, crate::specs::Places::wanted))]
+pub fn want(
+    c: Conn,
+    table: &mut [u64],
+    count: usize,
+    dir: u64,
+    desired: u64,
+) -> Result<Changed, Refusal>
     ensures { grown result table.new ≡ want_after c table.old count dir desired }
 {
     if (dir > 1) | (desired > COUNTS) {
-        return unmoved(c, RANGE, count);
+        return Err(Refusal::Range);
     }
     if !stream_table::sound(c, table, count) {
-        return unmoved(c, RANGE, count);
+        return Err(Refusal::Range);
     }
     let k = c.counts(dir);
-    let new = bounded::less(desired, k.ralloc);
-    if bounded::less(COUNTS, k.rmax) < new {
-        return unmoved(c, RANGE, count);
+    let new = desired.saturating_sub(k.ralloc);
+    if COUNTS.saturating_sub(k.rmax) < new {
+        return Err(Refusal::Range);
     }
     let m = count + new as usize;
-    if (m > 256) | (table.len() < 7 * m) {
-        return unmoved(c, FULL, count);
+    if (m > PLACES) | (table.len() < WIDTH * m) {
+        return Err(Refusal::Full);
     }
-    grant(c, table, count, dir, desired, k, new)
+    Ok(grant(c, table, count, dir, desired, k, new))
 }
 
 // The counts with one more of ours opened.
@@ -156,53 +134,42 @@ fn open_one(k: Counts) -> Counts
 {
     Counts {
         next: k.next + 1,
-        max: k.max,
-        rmax: k.rmax,
-        ralloc: k.ralloc,
-        rwant: k.rwant,
-        rnext: k.rnext,
+        ..k
     }
 }
 
 // A stream of ours is opened: the value is its id.
-pub fn open(c: Conn, table: &mut [u64], count: usize, dir: u64) -> Changed
+#[tactic(auto, unfolding(crate::specs::Places::open_after, crate::specs::Places::open_in))]
+pub fn open(c: Conn, table: &mut [u64], count: usize, dir: u64) -> Result<Changed, Refusal>
     ensures { grown result table.new ≡ open_after c table.old count dir }
 {
     if dir > 1 {
-        return unmoved(c, RANGE, count);
+        return Err(Refusal::Range);
     }
     if !stream_table::sound(c, table, count) {
-        return unmoved(c, RANGE, count);
+        return Err(Refusal::Range);
     }
     let k = c.counts(dir);
     if k.max <= k.next {
-        return unmoved(c, LIMIT, count);
+        return Err(Refusal::Limit);
     }
     let id = 4 * k.next + 2 * dir + c.side;
     let d = c.with(dir, open_one(k));
     if dir == 1 {
-        return moved(d, id, count);
+        return Ok(moved(d, id, count));
     }
     if !stream_table::has(table, count) {
-        return unmoved(c, FULL, count);
+        return Err(Refusal::Full);
     }
-    let t = Stream::new(c.swindow, id);
-    stream_table::insert(table, count, t);
-    moved(d, id, count + 1)
+    stream_table::insert(table, count, Stream::new(c.swindow, id));
+    Ok(moved(d, id, count + 1))
 }
 
 // The counts with none of ours opened.
 fn open_none(k: Counts) -> Counts
     ensures { result ≡ unopened k }
 {
-    Counts {
-        next: 0,
-        max: k.max,
-        rmax: k.rmax,
-        ralloc: k.ralloc,
-        rwant: k.rwant,
-        rnext: k.rnext,
-    }
+    Counts { next: 0, ..k }
 }
 
 // None of ours opened, and the ends of those that were in the closed total.
@@ -210,31 +177,21 @@ fn forget(c: Conn, total: u64) -> Conn
     requires { c.closed + total < 18446744073709551616 }
     ensures { result ≡ rejected_conn c total }
 {
-    let bi = open_none(c.bi);
-    let uni = open_none(c.uni);
     Conn {
-        side: c.side,
-        bi,
-        uni,
-        charged: c.charged,
+        bi: open_none(c.bi),
+        uni: open_none(c.uni),
         closed: c.closed + total,
-        grant: c.grant,
-        window: c.window,
-        debt: c.debt,
-        swindow: c.swindow,
+        ..c
     }
 }
 
 // 0-RTT is rejected: our streams go and their ends stay charged; the value is how many went.
-pub fn rejected(c: Conn, table: &mut [u64], count: usize) -> Changed
+pub fn rejected(c: Conn, table: &mut [u64], count: usize) -> Result<Changed, Refusal>
     ensures { grown result table.new ≡ reject_after c table.old count }
 {
-    let t = stream_table::strip(c, table, count);
-    if t.answer != 0 {
-        return unmoved(c, t.answer, count);
-    }
+    let t = stream_table::strip(c, table, count)?;
     let d = forget(c, t.total);
     let n = t.count;
     let gone = count - n;
-    moved(d, gone as u64, n)
+    Ok(moved(d, gone as u64, n))
 }

@@ -2,10 +2,11 @@
 --
 -- `end` is the highest end charged and `read` the bytes credited, so that the charge of an event is the rise of `end` and its credit the rise of
 -- `read`. A known final size is `end` itself: a FIN must end there, and the phase says that it is known. A reset or a stop sets `read` to `end`, so
--- that a byte is credited once whatever comes after. A step is what an event comes to; an event that changes nothing, refused or not, moves nothing.
+-- that a byte is credited once whatever comes after. A step is what an event comes to; an event that changes nothing is no step, and one that is refused an error.
 -- Assumes nothing.
-use Rattle.std.specs.Prelude.{ℕ, ◌+◌, ◌-◌, ◌/◌, ◌%◌, ◌^◌, min, max, Bool, true, false, cond, ◌&&◌, ◌||◌, eqb, ltb, leb}
-use Rattle.answers.specs.Answers.{OK, ORDER, FLOW, FINAL}
+use Rattle.std.specs.Prelude.{ℕ, ◌+◌, ◌-◌, ◌/◌, ◌%◌, ◌^◌, min, max, Bool, cond, ◌&&◌, ◌||◌, eqb, ltb, leb, Option, Some, None, Result, Ok, Err}
+use Rattle.answers.specs.declared.Refusal.{Refusal}
+use Rattle.answers.specs.declared.Refusal.TheVariants.{Order, Flow, Final}
 use Rattle.stream_record.specs.declared.Stream.{Stream}
 use Rattle.stream_record.specs.declared.Step.{Step}
 
@@ -48,16 +49,19 @@ abbrev pub with_rec : Stream → ℕ → ℕ → ℕ → ℕ → Stream
 with_rec s e r m p = record { id = s.id; end = e; read = r; limit = m; phase = p; sending = s.sending; class = s.class }
 
 -- ---- steps
--- nothing changes: a refusal, or OK with nothing charged
-abbrev pub same : Stream → ℕ → Step
-same s a = record { moved = false; answer = a; value = 0; charge = 0; credit = 0; shut = 0; stream = s }
-
+-- the record is now this one
 abbrev pub moved : Stream → ℕ → ℕ → ℕ → Step
-moved s v charge credit = record { moved = true; answer = OK; value = v; charge = charge; credit = credit; shut = 0; stream = s }
+moved s v charge credit = record { value = v; charge = charge; credit = credit; shut = 0; stream = s }
 
 -- the receiving half is over at e, which goes to the closed total; the record keeps its id, its sending half and its class
 abbrev pub closing : Stream → ℕ → ℕ → ℕ → ℕ → Step
-closing s v charge credit e = record { moved = true; answer = OK; value = v; charge = charge; credit = credit; shut = e; stream = with_rec s 0 0 0 CLOSED }
+closing s v charge credit e = record { value = v; charge = charge; credit = credit; shut = e; stream = with_rec s 0 0 0 CLOSED }
+
+-- what is said of the step that an event comes to, and `z` where it comes to none, refused or not
+abbrev pub on_step : {A : Type 0} → A → (Step → A) → Result (Option Step) Refusal → A
+on_step z f (Ok (Some p)) = f p
+on_step z f (Ok None) = z
+on_step z f (Err why) = z
 
 -- ---- the peer's events
 -- data up to e, not below the end so far, is taken: a stopped stream is credited at once, and is over with its FIN
@@ -68,65 +72,65 @@ kept s e fin =
     (cond fin (moved (with_rec s e s.read s.limit SIZED) 0 (e - s.end) 0) (moved (with_rec s e s.read s.limit s.phase) 0 (e - s.end) 0))
 
 -- data that end at `to`, where the connection has room for that many bytes more; 01's order of checks for data, from "closed or already reset" on
-unfoldable pub took : Stream → ℕ → Bool → ℕ → Step
+unfoldable pub took : Stream → ℕ → Bool → ℕ → Result (Option Step) Refusal
 took s to fin room =
-    cond (eqb s.phase CLOSED || eqb s.phase RESET) (same s OK)
-    (cond (leb (2 ^ 62) to) (same s FLOW)
-    (cond (eqb s.phase SIZED && ltb s.end to) (same s FINAL)
-    (cond (fin && ltb to s.end) (same s FINAL)
-    (cond (ltb s.limit to) (same s FLOW)
-    (cond (ltb room (to - s.end)) (same s FLOW)
-    (kept s (max s.end to) fin))))))
+    cond (eqb s.phase CLOSED || eqb s.phase RESET) (Ok None)
+    (cond (leb (2 ^ 62) to) (Err Flow)
+    (cond (eqb s.phase SIZED && ltb s.end to) (Err Final)
+    (cond (fin && ltb to s.end) (Err Final)
+    (cond (ltb s.limit to) (Err Flow)
+    (cond (ltb room (to - s.end)) (Err Flow)
+    (Ok (Some (kept s (max s.end to) fin))))))))
 
 -- a reset that nothing speaks against: the rest of the stream is charged, and what was not read is credited
-unfoldable pub cut : Stream → ℕ → Step
+unfoldable pub cut : Stream → ℕ → Option Step
 cut s final =
-    cond (eqb s.phase RESET) (same s OK)
-    (cond (eqb s.phase STOPPED) (closing s 0 (final - s.end) (final - s.read) final)
-    (moved (with_rec s final final s.limit RESET) 0 (final - s.end) (final - s.read)))
+    cond (eqb s.phase RESET) None
+    (cond (eqb s.phase STOPPED) (Some (closing s 0 (final - s.end) (final - s.read) final))
+    (Some (moved (with_rec s final final s.limit RESET) 0 (final - s.end) (final - s.read))))
 
 -- a reset with that final size; on a stream that is reset already it is checked through to the end and changes nothing
-unfoldable pub was_reset : Stream → ℕ → ℕ → Step
+unfoldable pub was_reset : Stream → ℕ → ℕ → Result (Option Step) Refusal
 was_reset s final room =
-    cond (eqb s.phase CLOSED) (same s OK)
-    (cond (ltb final s.end || ((eqb s.phase SIZED || eqb s.phase RESET) && ltb s.end final)) (same s FINAL)
-    (cond (ltb s.limit final) (same s FLOW)
-    (cond (ltb room (final - s.end)) (same s FLOW)
-    (cut s final))))
+    cond (eqb s.phase CLOSED) (Ok None)
+    (cond (ltb final s.end || ((eqb s.phase SIZED || eqb s.phase RESET) && ltb s.end final)) (Err Final)
+    (cond (ltb s.limit final) (Err Flow)
+    (cond (ltb room (final - s.end)) (Err Flow)
+    (Ok (cut s final)))))
 
 -- ---- the application's events: ORDER on a stream that is over or that it stopped itself
 -- we stop the stream; the value says whether STOP_SENDING is due
-unfoldable pub halted : Stream → Step
+unfoldable pub halted : Stream → Result (Option Step) Refusal
 halted s =
-    cond (eqb s.phase CLOSED || eqb s.phase STOPPED) (same s ORDER)
-    (cond (eqb s.phase OPEN) (moved (with_rec s s.end s.end s.limit STOPPED) 1 0 (s.end - s.read))
-    (cond (eqb s.phase SIZED) (closing s 1 0 (s.end - s.read) s.end) (closing s 0 0 (s.end - s.read) s.end)))
+    cond (eqb s.phase CLOSED || eqb s.phase STOPPED) (Err Order)
+    (cond (eqb s.phase OPEN) (Ok (Some (moved (with_rec s s.end s.end s.limit STOPPED) 1 0 (s.end - s.read))))
+    (cond (eqb s.phase SIZED) (Ok (Some (closing s 1 0 (s.end - s.read) s.end))) (Ok (Some (closing s 0 0 (s.end - s.read) s.end)))))
 
 -- the application has read n bytes more
-unfoldable pub read_on : Stream → ℕ → Step
+unfoldable pub read_on : Stream → ℕ → Result (Option Step) Refusal
 read_on s n =
-    cond (eqb s.phase CLOSED || eqb s.phase STOPPED) (same s ORDER)
-    (cond (ltb (s.end - s.read) n) (same s ORDER)
-    (moved (with_rec s s.end (s.read + n) s.limit s.phase) 0 0 n))
+    cond (eqb s.phase CLOSED || eqb s.phase STOPPED) (Err Order)
+    (cond (ltb (s.end - s.read) n) (Err Order)
+    (Ok (Some (moved (with_rec s s.end (s.read + n) s.limit s.phase) 0 0 n))))
 
 -- the application learns the end: 0 not yet, 1 finished, 2 reset
-unfoldable pub seen_by : Stream → Step
+unfoldable pub seen_by : Stream → Result (Option Step) Refusal
 seen_by s =
-    cond (eqb s.phase CLOSED || eqb s.phase STOPPED) (same s ORDER)
-    (cond (eqb s.phase RESET) (closing s 2 0 0 s.end)
-    (cond (eqb s.phase SIZED && eqb s.read s.end) (closing s 1 0 0 s.end) (same s OK)))
+    cond (eqb s.phase CLOSED || eqb s.phase STOPPED) (Err Order)
+    (cond (eqb s.phase RESET) (Ok (Some (closing s 2 0 0 s.end)))
+    (cond (eqb s.phase SIZED && eqb s.read s.end) (Ok (Some (closing s 1 0 0 s.end))) (Ok None)))
 
 -- ---- our own events
 -- the limit that MAX_STREAM_DATA announces for a window w: it never falls, and never passes what a frame can carry
 abbrev pub new_limit : Stream → ℕ → ℕ
 new_limit s w = max s.limit (min (s.read + w) MOST)
 
-unfoldable pub announced : Stream → ℕ → Step
-announced s w = cond (eqb s.phase OPEN) (moved (with_rec s s.end s.read (new_limit s w) OPEN) (new_limit s w) 0 0) (same s ORDER)
+unfoldable pub announced : Stream → ℕ → Result (Option Step) Refusal
+announced s w = cond (eqb s.phase OPEN) (Ok (Some (moved (with_rec s s.end s.read (new_limit s w) OPEN) (new_limit s w) 0 0))) (Err Order)
 
 -- our sending half is done
-unfoldable pub sent_done : Stream → Step
+unfoldable pub sent_done : Stream → Result (Option Step) Refusal
 sent_done s =
     cond (eqb s.sending 1)
-    (moved (record { id = s.id; end = s.end; read = s.read; limit = s.limit; phase = s.phase; sending = 0; class = s.class }) 0 0 0)
-    (same s ORDER)
+    (Ok (Some (moved (record { id = s.id; end = s.end; read = s.read; limit = s.limit; phase = s.phase; sending = 0; class = s.class }) 0 0 0)))
+    (Err Order)

@@ -3,9 +3,9 @@
 #![tactic(auto)]
 
 ghost use Rattle.std.specs.Prelude.{◌≡◌};
-ghost use Rattle.stream_record.specs.Record.{fresh, same, moved, closing, with_rec, kept, took, cut, was_reset, halted, read_on, seen_by, announced, sent_done};
+ghost use Rattle.stream_record.specs.Record.{fresh, moved, closing, kept, took, cut, was_reset, halted, read_on, seen_by, announced, sent_done};
 
-use answers::{FINAL, FLOW, OK, ORDER};
+use answers::Refusal;
 
 // Offsets end below this (01, Limits).
 const LIMIT: u64 = 1 << 62;
@@ -25,7 +25,7 @@ pub const RESET: u64 = 3;
 pub const STOPPED: u64 = 4;
 
 // The record of one stream.
-#[derive(Clone, Copy)]
+#[derive(Clone, Copy, Debug, PartialEq, Eq)]
 pub struct Stream {
     // The stream's id: bit 0 the initiator, bit 1 the direction (RFC 9000 section 2.1).
     pub id: u64,
@@ -35,19 +35,18 @@ pub struct Stream {
     pub read: u64,
     // Limit announced to the peer.
     pub limit: u64,
-    // Phase of the receiving half.
+    // Phase of the receiving half; a number and not an enum, as the lent table holds it as a word, and stream_table::good answers for one past the last.
     pub phase: u64,
-    // 1 while our sending half of a two-way stream is open.
+    // 1 while our sending half of a two-way stream is open; a number for the same reason.
     pub sending: u64,
-    // Kept for the stream's class; 0 for every stream so far.
+    // Kept for the stream's class; 0 for every stream so far, and a number for the same reason.
     pub class: u64,
 }
 
-// What an event does to one stream: `shut` is the end that goes to the closed total.
+// What an event does to one stream: `shut` is the end that goes to the closed total. An event that changes nothing makes no step.
+// `value` is what the event's own line says, a limit or one of 0, 1 and 2: a number, as one type serves all and its events print it.
 #[derive(Clone, Copy)]
 pub struct Step {
-    pub moved: bool,
-    pub answer: u8,
     pub value: u64,
     pub charge: u64,
     pub credit: u64,
@@ -71,28 +70,11 @@ impl Stream {
         }
     }
 
-    // Nothing changes.
-    fn same(self, answer: u8) -> Step
-        ensures { result ≡ same self answer }
-    {
-        Step {
-            moved: false,
-            answer,
-            value: 0,
-            charge: 0,
-            credit: 0,
-            shut: 0,
-            stream: self,
-        }
-    }
-
     // The record is now this one.
     fn step(self, value: u64, charge: u64, credit: u64) -> Step
         ensures { result ≡ moved self value charge credit }
     {
         Step {
-            moved: true,
-            answer: OK,
             value,
             charge,
             credit,
@@ -101,37 +83,18 @@ impl Stream {
         }
     }
 
-    // The same stream with other numbers.
-    fn with(self, end: u64, read: u64, limit: u64, phase: u64) -> Stream
-        ensures { result ≡ with_rec self end read limit phase }
-    {
-        Stream {
-            id: self.id,
-            end,
-            read,
-            limit,
-            phase,
-            sending: self.sending,
-            class: self.class,
-        }
-    }
-
     // The receiving half is over at `e`.
     fn close(self, value: u64, charge: u64, credit: u64, e: u64) -> Step
         ensures { result ≡ closing self value charge credit e }
     {
         let t = Stream {
-            id: self.id,
             end: 0,
             read: 0,
             limit: 0,
             phase: CLOSED,
-            sending: self.sending,
-            class: self.class,
+            ..self
         };
         Step {
-            moved: true,
-            answer: OK,
             value,
             charge,
             credit,
@@ -141,160 +104,184 @@ impl Stream {
     }
 
     // Data up to `e` is taken; `e` is not below the end so far.
+    #[tactic(auto, unfolding(crate::specs::Record::kept))]
     fn keep(self, e: u64, fin: bool) -> Step
         ensures { result ≡ kept self e fin }
     {
-        let new = bounded::less(e, self.end);
+        let new = e.saturating_sub(self.end);
         if self.phase == STOPPED {
             if fin {
                 return self.close(0, new, new, e);
             }
-            return self.with(e, e, self.limit, STOPPED).step(0, new, new);
+            let t = Stream {
+                end: e,
+                read: e,
+                ..self
+            };
+            return t.step(0, new, new);
         }
         if fin {
-            return self.with(e, self.read, self.limit, SIZED).step(0, new, 0);
+            let t = Stream {
+                end: e,
+                phase: SIZED,
+                ..self
+            };
+            return t.step(0, new, 0);
         }
-        self.with(e, self.read, self.limit, self.phase)
-            .step(0, new, 0)
+        let t = Stream { end: e, ..self };
+        t.step(0, new, 0)
     }
 
     // Data of the peer that end at `to`, with `room` for that many bytes more on the connection.
-    pub fn data(self, to: u64, fin: bool, room: u64) -> Step
+    #[tactic(auto, unfolding(crate::specs::Record::took))]
+    pub fn data(self, to: u64, fin: bool, room: u64) -> Result<Option<Step>, Refusal>
         ensures { result ≡ took self to fin room }
     {
         if (self.phase == CLOSED) | (self.phase == RESET) {
-            return self.same(OK);
+            return Ok(None);
         }
         if to >= LIMIT {
-            return self.same(FLOW);
+            return Err(Refusal::Flow);
         }
         if (self.phase == SIZED) & (self.end < to) {
-            return self.same(FINAL);
+            return Err(Refusal::Final);
         }
         if fin & (to < self.end) {
-            return self.same(FINAL);
+            return Err(Refusal::Final);
         }
         if self.limit < to {
-            return self.same(FLOW);
+            return Err(Refusal::Flow);
         }
-        if room < bounded::less(to, self.end) {
-            return self.same(FLOW);
+        if room < to.saturating_sub(self.end) {
+            return Err(Refusal::Flow);
         }
-        self.keep(bounded::most(self.end, to), fin)
+        Ok(Some(self.keep(self.end.max(to), fin)))
     }
 
     // A reset that nothing speaks against.
-    fn cut(self, last: u64) -> Step
+    #[tactic(auto, unfolding(crate::specs::Record::cut))]
+    fn cut(self, last: u64) -> Option<Step>
         ensures { result ≡ cut self last }
     {
         if self.phase == RESET {
-            return self.same(OK);
+            return None;
         }
-        let new = bounded::less(last, self.end);
-        let back = bounded::less(last, self.read);
+        let new = last.saturating_sub(self.end);
+        let back = last.saturating_sub(self.read);
         if self.phase == STOPPED {
-            return self.close(0, new, back, last);
+            return Some(self.close(0, new, back, last));
         }
-        self.with(last, last, self.limit, RESET).step(0, new, back)
+        let t = Stream {
+            end: last,
+            read: last,
+            phase: RESET,
+            ..self
+        };
+        Some(t.step(0, new, back))
     }
 
     // A reset of the peer with the final size `last`, with `room` for that many bytes more on the connection.
-    pub fn reset(self, last: u64, room: u64) -> Step
+    #[tactic(auto, unfolding(crate::specs::Record::was_reset))]
+    pub fn reset(self, last: u64, room: u64) -> Result<Option<Step>, Refusal>
         ensures { result ≡ was_reset self last room }
     {
         if self.phase == CLOSED {
-            return self.same(OK);
+            return Ok(None);
         }
         if (last < self.end)
             | (((self.phase == SIZED) | (self.phase == RESET)) & (self.end < last))
         {
-            return self.same(FINAL);
+            return Err(Refusal::Final);
         }
         if self.limit < last {
-            return self.same(FLOW);
+            return Err(Refusal::Flow);
         }
-        if room < bounded::less(last, self.end) {
-            return self.same(FLOW);
+        if room < last.saturating_sub(self.end) {
+            return Err(Refusal::Flow);
         }
-        self.cut(last)
+        Ok(self.cut(last))
     }
 
     // We stop the stream: what is unread is credited, and the value is 1 where STOP_SENDING is due.
-    pub fn stop(self) -> Step
+    #[tactic(auto, unfolding(crate::specs::Record::halted))]
+    pub fn stop(self) -> Result<Option<Step>, Refusal>
         ensures { result ≡ halted self }
     {
         if (self.phase == CLOSED) | (self.phase == STOPPED) {
-            return self.same(ORDER);
+            return Err(Refusal::Order);
         }
-        let back = bounded::less(self.end, self.read);
+        let back = self.end.saturating_sub(self.read);
         if self.phase == OPEN {
-            return self
-                .with(self.end, self.end, self.limit, STOPPED)
-                .step(1, 0, back);
+            let t = Stream {
+                read: self.end,
+                phase: STOPPED,
+                ..self
+            };
+            return Ok(Some(t.step(1, 0, back)));
         }
         if self.phase == SIZED {
-            return self.close(1, 0, back, self.end);
+            return Ok(Some(self.close(1, 0, back, self.end)));
         }
-        self.close(0, 0, back, self.end)
+        Ok(Some(self.close(0, 0, back, self.end)))
     }
 
     // The application has read `n` bytes more, which are credited.
-    pub fn read(self, n: u64) -> Step
+    #[tactic(auto, unfolding(crate::specs::Record::read_on))]
+    pub fn read(self, n: u64) -> Result<Option<Step>, Refusal>
         ensures { result ≡ read_on self n }
     {
         if (self.phase == CLOSED) | (self.phase == STOPPED) {
-            return self.same(ORDER);
+            return Err(Refusal::Order);
         }
-        if bounded::less(self.end, self.read) < n {
-            return self.same(ORDER);
+        if self.end.saturating_sub(self.read) < n {
+            return Err(Refusal::Order);
         }
-        self.with(self.end, self.read + n, self.limit, self.phase)
-            .step(0, 0, n)
+        let t = Stream {
+            read: self.read + n,
+            ..self
+        };
+        Ok(Some(t.step(0, 0, n)))
     }
 
     // The application learns the end: the value is 0 not yet, 1 finished, 2 reset.
-    pub fn seen(self) -> Step
+    #[tactic(auto, unfolding(crate::specs::Record::seen_by))]
+    pub fn seen(self) -> Result<Option<Step>, Refusal>
         ensures { result ≡ seen_by self }
     {
         if (self.phase == CLOSED) | (self.phase == STOPPED) {
-            return self.same(ORDER);
+            return Err(Refusal::Order);
         }
         if self.phase == RESET {
-            return self.close(2, 0, 0, self.end);
+            return Ok(Some(self.close(2, 0, 0, self.end)));
         }
         if (self.phase == SIZED) & (self.read == self.end) {
-            return self.close(1, 0, 0, self.end);
+            return Ok(Some(self.close(1, 0, 0, self.end)));
         }
-        self.same(OK)
+        Ok(None)
     }
 
     // MAX_STREAM_DATA goes out for a window `w`: the value is the limit to send.
-    pub fn announce(self, w: u64) -> Step
+    #[tactic(auto, unfolding(crate::specs::Record::announced))]
+    pub fn announce(self, w: u64) -> Result<Option<Step>, Refusal>
         ensures { result ≡ announced self w }
     {
         if self.phase == OPEN {
-            let m = bounded::most(self.limit, bounded::within(self.read, w, MOST));
-            return self.with(self.end, self.read, m, OPEN).step(m, 0, 0);
+            let m = self.limit.max(self.read.saturating_add(w).min(MOST));
+            let t = Stream { limit: m, ..self };
+            return Ok(Some(t.step(m, 0, 0)));
         }
-        self.same(ORDER)
+        Err(Refusal::Order)
     }
 
     // Our sending half is done.
-    pub fn sent(self) -> Step
+    #[tactic(auto, unfolding(crate::specs::Record::sent_done))]
+    pub fn sent(self) -> Result<Option<Step>, Refusal>
         ensures { result ≡ sent_done self }
     {
         if self.sending == 1 {
-            let t = Stream {
-                id: self.id,
-                end: self.end,
-                read: self.read,
-                limit: self.limit,
-                phase: self.phase,
-                sending: 0,
-                class: self.class,
-            };
-            return t.step(0, 0, 0);
+            let t = Stream { sending: 0, ..self };
+            return Ok(Some(t.step(0, 0, 0)));
         }
-        self.same(ORDER)
+        Err(Refusal::Order)
     }
 }

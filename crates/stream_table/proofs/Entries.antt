@@ -1,22 +1,22 @@
 -- What the checks give, and `enter` case by case.
 -- Assumes nothing.
-use mathlib.Core.Path.{◌≡◌, ap, sym, ◌∙◌}
+use mathlib.Core.Path.{◌≡◌, refl, ap, sym, ◌∙◌}
 use mathlib.Core.Bool.{Bool, true, false, ◌&&◌, not}
 use mathlib.Core.List.{List, [], ◌∷◌}
 use Prim.Native.Nat.{ℕ, zero, suc, ◌+◌, ◌*◌, ◌-◌, ◌^◌, ◌≤◌, ◌<◌}
 use native.Mathlib.Omega.{arith}
-use lib.Dec.{eqb, ltb, leb}
+use lib.Dec.{ltb, leb}
 use lib.ListN.{length, get_or}
-use borrow.Author.Tests.{lt-ltb, le-ltb, eq-eqb, ne_eqb, leb-true, ltb-true, eqb-true, not-true, not-false}
+use borrow.Author.Tests.{lt-ltb, le-ltb, leb-true, ltb-true, eqb-true, not-true, not-false}
 use Rattle.stream_record.specs.declared.Stream.{Stream}
 use Rattle.stream_record.specs.Record.{none}
 use Rattle.stream_conn.specs.declared.Conn.{Conn}
 use Rattle.stream_conn.specs.Books.{admitted, good_conn}
-use Rattle.stream_table.specs.declared.Found.{Found}
-use Rattle.stream_table.specs.declared.Found.TheVariants.{At, Nothing}
-use Rattle.stream_table.specs.declared.Entry.{Entry}
-use Rattle.stream_table.specs.declared.Entry.TheVariants.{No, Absent, Place}
-use Rattle.stream_table.specs.Table.{sum_ends, records, rec_at, find_in, theirs, good_rec, good_from, sound_b, placed, entered}
+use Rattle.std.specs.Prelude.{Option, Some, None, Result, Ok, Err, is_ok}
+use Rattle.answers.specs.declared.Refusal.{Refusal}
+use Rattle.answers.specs.declared.Refusal.TheVariants.{Range}
+use Rattle.stream_table.specs.declared.Place.{Place}
+use Rattle.stream_table.specs.Table.{sum_ends, records, rec_at, find_in, theirs, good_rec, good_from, sound_b, placed, let_in, entered}
 use Rattle.stream_table.proofs.Tables.{by_cond, and_left, and_right, found_below, records_at}
 
 -- ---- what the checks give
@@ -73,77 +73,79 @@ module _ (c : Conn) (l : List ℕ) (n : ℕ) (e : sound_b c l n ≡ true) where
   sound_end i h = omega (arith, sound_sum, end_below (records n l) i, ap (λ (s : Stream). s.end) (records_at n l i h))
 
 -- ---- `enter`
+abbrev Entry : Type 0
+Entry = Result (Option Place) Refusal
+
 module _ (c : Conn) (l : List ℕ) (n id : ℕ) where
-  pub enter_id : 2 ^ 62 ≤ id → No 2 ≡ entered c l n id
+  pub enter_id : 2 ^ 62 ≤ id → ◌≡◌ {A = Entry} (Err Range) (entered c l n id)
   unfolding entered
   enter_id h = rw (le-ltb id (2 ^ 62) h)
 
   module _ (h : id < 2 ^ 62) {g : Bool} (eg : g ≡ sound_b c l n) where
-    pub enter_bad : not g ≡ true → No 2 ≡ entered c l n id
+    pub enter_bad : not g ≡ true → ◌≡◌ {A = Entry} (Err Range) (entered c l n id)
     unfolding entered
     enter_bad e = rw (lt-ltb id (2 ^ 62) h, ← eg, not-true g e)
 
-    module _ (e : not g ≡ false) {a : ℕ} (ea : a ≡ admitted c id) where
-      pub enter_stray : (a ≡ 0 → ⊥) → No a ≡ entered c l n id
+    module _ (e : not g ≡ false) {a : Result (Unit {0}) Refusal} (ea : a ≡ admitted c id) where
+      pub enter_stray : {why : Refusal} → a ≡ Err why → ◌≡◌ {A = Entry} (Err why) (entered c l n id)
       unfolding entered
-      enter_stray z = rw (lt-ltb id (2 ^ 62) h, ← eg, not-false g e, ← ea, ne_eqb a 0 z)
+      enter_stray z = rw (lt-ltb id (2 ^ 62) h, ← eg, not-false g e, ← ea, z)
 
-      module _ (z : a ≡ 0) {f : Found} (ef : f ≡ find_in (records n l) id) where
-        enter_found : placed l f ≡ entered c l n id
+      module _ {u : Unit {0}} (z : a ≡ Ok u) {f : Option ℕ} (ef : f ≡ find_in (records n l) id) where
+        enter_found : ◌≡◌ {A = Entry} (Ok (placed l f)) (entered c l n id)
         unfolding entered
-        enter_found = rw (lt-ltb id (2 ^ 62) h, ← eg, not-false g e, ← ea, eq-eqb a 0 z, ← ef)
+        enter_found = rw (lt-ltb id (2 ^ 62) h, ← eg, not-false g e, ← ea, z, ← ef)
 
-        pub enter_place : {i : ℕ} {s : Stream} → f ≡ At i → s ≡ rec_at l i → Place i s ≡ entered c l n id
-        enter_place {i} ei es = ap (Place i) es ∙ ap (placed l) (sym ei) ∙ enter_found
+        pub enter_place : {i : ℕ} {s : Stream} → f ≡ Some i → s ≡ rec_at l i → ◌≡◌ {A = Entry} (Ok (Some (record { at = i; stream = s }))) (entered c l n id)
+        enter_place {i} ei es =
+            ap (λ (x : Stream). Ok (Some (record { at = i; stream = x }))) es ∙ ap (λ (x : Option ℕ). Ok (placed l x)) (sym ei) ∙ enter_found
 
-        pub find_room : {i : ℕ} → f ≡ At i → 7 * i + 7 ≤ length l
+        pub find_room : {i : ℕ} → f ≡ Some i → 7 * i + 7 ≤ length l
         find_room {i} ei = omega (arith, found_below n l id i (sym ef ∙ ei), sound_room c l n (sym eg ∙ not-false g e))
 
-        pub enter_absent : f ≡ Nothing → Absent ≡ entered c l n id
-        enter_absent ei = ap (placed l) (sym ei) ∙ enter_found
+        pub enter_absent : f ≡ None → ◌≡◌ {A = Entry} (Ok None) (entered c l n id)
+        enter_absent ei = ap (λ (x : Option ℕ). Ok (placed l x)) (sym ei) ∙ enter_found
 
 pub enter_room : (c : Conn) (l : List ℕ) (n : ℕ) {g : Bool} → g ≡ sound_b c l n → not g ≡ false → 7 * n ≤ length l
 enter_room c l n {g} eg e = sound_room c l n (sym eg ∙ not-false g e)
 
 pub ruleset enters = (enter_id, enter_bad, enter_stray, enter_place, enter_absent, enter_room, find_room)
 
-never_no : (a i : ℕ) (s : Stream) → No a ≡ Place i s → ⊥
-never_no a i s p = let z : ◌≡◌ {A = ℕ} 0 1 = cc in omega arith
+placed_at : (l : List ℕ) (f : Option ℕ) (p : Place) → placed l f ≡ Some p → (f ≡ Some p.at) × (p.stream ≡ rec_at l p.at)
+placed_at l None p e = absurd (cc)
+placed_at l (Some j) p e =
+    let a : ◌≡◌ {A = Place} (record { at = j; stream = rec_at l j }) p = cc in
+    (ap (λ (x : Place). Some x.at) a, sym (ap (λ (x : Place). x.stream) a) ∙ ap (λ (x : Place). rec_at l x.at) a)
 
-never_absent : (i : ℕ) (s : Stream) → Absent ≡ Place i s → ⊥
-never_absent i s p = let z : ◌≡◌ {A = ℕ} 0 1 = cc in omega arith
-
-placed_at : (l : List ℕ) (f : Found) (i : ℕ) (s : Stream) → placed l f ≡ Place i s → (f ≡ At i) × (s ≡ rec_at l i)
-placed_at l Nothing i s p = absurd (never_absent i s p)
-placed_at l (At j) i s p =
-    let a : j ≡ i = cc in
-    let b : rec_at l j ≡ s = cc in
-    (ap At a, sym b ∙ ap (rec_at l) a)
+let_in_at : (p : Option Place) (r : Result (Unit {0}) Refusal) (q : Place) → let_in p r ≡ Ok (Some q) → (p ≡ Some q) × (is_ok r ≡ true)
+let_in_at p (Ok u) q e =
+    let a : p ≡ Some q = cc in
+    (a, refl)
+let_in_at p (Err why) q e = absurd (cc)
 
 -- what a place tells
 pub record Placed (c : Conn) (l : List ℕ) (n id i : ℕ) (s : Stream) : Type 0 where
   pub sound : sound_b c l n ≡ true
-  pub found : find_in (records n l) id ≡ At i
+  pub found : find_in (records n l) id ≡ Some i
   pub is : s ≡ rec_at l i
-  pub admits : admitted c id ≡ 0
+  pub admits : is_ok (admitted c id) ≡ true
 
-pub entry_told : (c : Conn) (l : List ℕ) (n id i : ℕ) (s : Stream) → entered c l n id ≡ Place i s → Placed c l n id i s
+pub entry_told : (c : Conn) (l : List ℕ) (n id : ℕ) (p : Place) → entered c l n id ≡ Ok (Some p) → Placed c l n id p.at p.stream
 unfolding entered
-entry_told c l n id i s =
-    by_cond (λ (x : Entry). x ≡ Place i s → Placed c l n id i s) (ltb id (2 ^ 62) && sound_b c l n) _ _
-    (λ h. by_cond (λ (x : Entry). x ≡ Place i s → Placed c l n id i s) (eqb (admitted c id) 0) _ _
-    (λ a p.
-    let q = placed_at l (find_in (records n l) id) i s p in
-    record { sound = and_right (ltb id (2 ^ 62)) _ h; found = q.0; is = q.1; admits = eqb-true (admitted c id) 0 a })
-    (λ _ p. absurd (never_no (admitted c id) i s p)))
-    (λ _ p. absurd (never_no 2 i s p))
+entry_told c l n id p =
+    by_cond (λ (x : Entry). x ≡ Ok (Some p) → Placed c l n id p.at p.stream) (ltb id (2 ^ 62) && sound_b c l n) _ _
+    (λ h e.
+    let q = let_in_at (placed l (find_in (records n l) id)) (admitted c id) p e in
+    let r = placed_at l (find_in (records n l) id) p q.0 in
+    record { sound = and_right (ltb id (2 ^ 62)) _ h; found = r.0; is = r.1; admits = q.1 })
+    (λ _ e. absurd (cc))
 
-module _ (c : Conn) (l : List ℕ) (n id : ℕ) {i : ℕ} {s : Stream} {x : Entry} (ex : x ≡ entered c l n id) (ei : x ≡ Place i s) where
-  pub at_place : Placed c l n id i s
-  at_place = entry_told c l n id i s (sym ex ∙ ei)
+module _ (c : Conn) (l : List ℕ) (n id : ℕ) {p : Place} {x : Entry} (ex : x ≡ entered c l n id) (ei : x ≡ Ok (Some p)) where
+  pub at_place : Placed c l n id p.at p.stream
+  at_place = entry_told c l n id p (sym ex ∙ ei)
 
-  pub place_below : i < n
-  place_below = found_below n l id i at_place.found
+  pub place_below : p.at < n
+  place_below = found_below n l id p.at at_place.found
 
   pub place_few : n ≤ 256
   place_few = sound_few c l n at_place.sound
@@ -151,11 +153,11 @@ module _ (c : Conn) (l : List ℕ) (n id : ℕ) {i : ℕ} {s : Stream} {x : Entr
   pub place_all : 7 * n ≤ length l
   place_all = sound_room c l n at_place.sound
 
-  pub place_room : 7 * i + 7 ≤ length l
+  pub place_room : 7 * p.at + 7 ≤ length l
   place_room = omega (arith, place_below, place_all)
 
   pub place_flow : c.charged ≤ c.grant
   place_flow = sound_flow c l n at_place.sound
 
-  pub place_end : c.closed + s.end ≤ c.charged
-  place_end = omega (arith, sound_end c l n at_place.sound i place_below, ap (λ (y : Stream). y.end) at_place.is)
+  pub place_end : c.closed + p.stream.end ≤ c.charged
+  place_end = omega (arith, sound_end c l n at_place.sound p.at place_below, ap (λ (y : Stream). y.end) at_place.is)

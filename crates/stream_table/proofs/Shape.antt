@@ -2,34 +2,17 @@
 -- Assumes nothing.
 use mathlib.Core.Path.{◌≡◌, refl, ap, sym, ◌∙◌}
 use mathlib.Core.Logic.{inr}
-use mathlib.Core.Bool.{Bool, true, false, not}
+use mathlib.Core.Bool.{true}
 use mathlib.Core.List.{List, [], ◌∷◌}
 use Prim.Native.Nat.{ℕ, zero, suc, ◌+◌, ◌*◌, ◌-◌, ◌≤◌, ◌<◌}
 use native.Mathlib.Numerals.{add-one}
 use native.Mathlib.Omega.{arith}
-use borrow.Author.Tests.{lt-ltb, le-ltb, le-leb, lt-leb, leb-true, ltb-true, not-true, not-false}
-use lib.Dec.{ltb, leb}
+use borrow.Author.Tests.{lt-ltb, le-leb, leb-true, ltb-true}
+use lib.Dec.{ltb}
 use lib.ListN.{length}
 use Rattle.stream_record.specs.declared.Stream.{Stream}
 use Rattle.stream_table.specs.Table.{rec_at, put_rec, recs_from, records, put_recs, lower, upper, insert_id, inserted, removed, has_place, stored_at, inserted_at, removed_at}
 use Rattle.stream_table.proofs.Tables.{rest_step, rest_end, store_other, length_store, and_left, and_right}
-
-module _ (a b : Stream) where
-  pub lower_first : a.id < b.id → a ≡ lower a b
-  lower_first h = rw (lt-ltb a.id b.id h)
-
-  pub lower_second : b.id ≤ a.id → b ≡ lower a b
-  lower_second h = rw (le-ltb a.id b.id h)
-
-  pub upper_second : a.id < b.id → b ≡ upper a b
-  upper_second h = rw (lt-ltb a.id b.id h)
-
-  pub upper_first : b.id ≤ a.id → a ≡ upper a b
-  upper_first h = rw (le-ltb a.id b.id h)
-
-pub ruleset lowers = (lower_first, lower_second)
-
-pub ruleset uppers = (upper_second, upper_first)
 
 -- a store leaves the records after it
 pub recs_after : (k m : ℕ) (l : List ℕ) (j : ℕ) (s : Stream) → j < k → recs_from k m (put_rec l j s) ≡ recs_from k m l
@@ -99,14 +82,6 @@ length_inserted l n s e = ap length e ∙ length_put l 0 (insert_id s (records n
 
 -- ---- is there a place
 module _ (l : List ℕ) (n : ℕ) where
-  pub has_many : 256 ≤ n → false ≡ has_place l n
-  unfolding has_place
-  has_many h = rw (le-ltb n 256 h)
-
-  pub has_lent : n < 256 → leb (7 * n + 7) (length l) ≡ has_place l n
-  unfolding has_place
-  has_lent h = rw (lt-ltb n 256 h)
-
   pub has_shut : n < 256 → 7 * n + 7 ≤ length l → has_place l n ≡ true
   unfolding has_place
   has_shut h k = rw (lt-ltb n 256 h, le-leb (7 * n + 7) (length l) k)
@@ -119,50 +94,10 @@ module _ (l : List ℕ) (n : ℕ) where
   unfolding has_place
   has_few e = ltb-true n 256 (and_left (ltb n 256) _ e)
 
-  pub has_told : {g : Bool} → g ≡ has_place l n → not g ≡ false → 7 * n + 7 ≤ length l
-  has_told {g} eg e = has_room (sym eg ∙ not-false g e)
-
-  module _ (s : Stream) {g : Bool} (eg : g ≡ has_place l n) where
-    pub put_not : not g ≡ true → l ≡ stored_at l n s
-    unfolding stored_at
-    put_not e = rw (← eg, not-true g e)
-
-    pub put_now : {l' : List ℕ} → not g ≡ false → l' ≡ put_rec l n s → l' ≡ stored_at l n s
-    unfolding stored_at
-    put_now e el = rw (← eg, not-false g e) el
-
-    pub insert_not : not g ≡ true → l ≡ inserted_at l n s
-    unfolding inserted_at
-    insert_not e = rw (← eg, not-true g e)
-
-    pub insert_now : {l' : List ℕ} → not g ≡ false → l' ≡ inserted l n s → l' ≡ inserted_at l n s
-    unfolding inserted_at
-    insert_now e el = rw (← eg, not-false g e) el
-
-pub ruleset hases = (has_many, has_lent)
-
-pub ruleset puts = (put_not, put_now, has_told)
-
-pub ruleset inserts = (insert_not, insert_now, has_told)
-
 module _ (l : List ℕ) (n i : ℕ) where
-  pub remove_past : n ≤ i → l ≡ removed_at l n i
-  unfolding removed_at
-  remove_past h = rw (le-ltb i n h)
-
-  pub remove_many : i < n → 256 < n → l ≡ removed_at l n i
-  unfolding removed_at
-  remove_many h k = rw (lt-ltb i n h, lt-leb n 256 k)
-
-  pub remove_short : i < n → n ≤ 256 → length l < 7 * n → l ≡ removed_at l n i
-  unfolding removed_at
-  remove_short h k m = rw (lt-ltb i n h, le-leb n 256 k, lt-leb (7 * n) (length l) m)
-
   pub remove_now : {l' : List ℕ} → i < n → n ≤ 256 → 7 * n ≤ length l → l' ≡ removed l n i → l' ≡ removed_at l n i
   unfolding removed_at
   remove_now h k m e = rw (lt-ltb i n h, le-leb n 256 k, le-leb (7 * n) (length l) m) e
-
-pub ruleset removes = (remove_past, remove_many, remove_short, remove_now)
 
 -- the words as the upper crates see them
 pub stored_is : (l : List ℕ) (n : ℕ) (s : Stream) → n < 256 → 7 * n + 7 ≤ length l → stored_at l n s ≡ put_rec l n s

@@ -7,32 +7,18 @@ use Prim.Native.Nat.{ℕ, ◌+◌, ◌*◌, ◌-◌, ◌%◌, ◌≤◌, ◌<◌
 use native.Mathlib.Omega.{arith}
 use lib.Dec.{eqb}
 use lib.ListN.{length}
-use borrow.Author.Tests.{eq-eqb, ne_eqb, not-true, not-false}
+use borrow.Author.Tests.{not-true, not-false}
 use Rattle.stream_record.specs.declared.Stream.{Stream}
 use Rattle.stream_conn.specs.declared.Conn.{Conn}
 use Rattle.stream_table.specs.declared.Stripped.{Stripped}
+use Rattle.std.specs.Prelude.{Ok, Err}
+use Rattle.answers.specs.declared.Refusal.TheVariants.{Range}
 use Rattle.stream_table.specs.Table.{sound_b, sum_ends, rec_at, put_rec, recs_from, records, Left, left, strip_from, stripped, strip_after}
 use Rattle.stream_table.proofs.Tables.{by_cond, rest_step, rest_end, length_store}
 use Rattle.stream_table.proofs.Entries.{sound_room, sound_sum, sound_flow, sound_conn, conn_most}
 use Rattle.stream_table.proofs.Shape.{recs_after}
 
 -- ---- 0-RTT rejection
-module _ (s : Stream) (side : ℕ) where
-  pub ours_add : (total : ℕ) → s.id % 2 ≡ side → total + s.end ≡ cond (eqb (s.id % 2) side) (total + s.end) total
-  ours_add total h = rw (eq-eqb (s.id % 2) side h)
-
-  pub ours_not : (total : ℕ) → (s.id % 2 ≡ side → ⊥) → total ≡ cond (eqb (s.id % 2) side) (total + s.end) total
-  ours_not total h = rw (ne_eqb (s.id % 2) side h)
-
-  module _ (l : List ℕ) (w : ℕ) where
-    pub put_not : s.id % 2 ≡ side → (w ≡ cond (eqb (s.id % 2) side) w (w + 1)) × (l ≡ cond (eqb (s.id % 2) side) l (put_rec l w s))
-    put_not h = (rw (eq-eqb (s.id % 2) side h), rw (eq-eqb (s.id % 2) side h))
-
-    pub put_one : {l' : List ℕ} → (s.id % 2 ≡ side → ⊥) → l' ≡ put_rec l w s → (w + 1 ≡ cond (eqb (s.id % 2) side) w (w + 1)) × (l' ≡ cond (eqb (s.id % 2) side) l (put_rec l w s))
-    put_one h el = (rw (ne_eqb (s.id % 2) side h), rw (ne_eqb (s.id % 2) side h) el)
-
-pub ruleset oursums = (ours_add, ours_not)
-
 pub strip_start : (side : ℕ) (l : List ℕ) (n : ℕ) → strip_from side l 0 0 (recs_from 0 (n - 0) l) ≡ stripped side l n
 unfolding stripped records
 strip_start side l n =
@@ -66,13 +52,13 @@ module _ (side : ℕ) (l : List ℕ) (n i w total : ℕ) (h : i < n) (wi : w ≤
     pub strip_total : total' ≤ total + s.end
     strip_total = rw et (by_cond (λ (x : ℕ). x ≤ total + s.end) (eqb (s.id % 2) side) (total + s.end) total (λ _. omega arith) (λ _. omega arith))
 
-    pub strip_turn : {f : Left} → strip_from side l w total (recs_from i (n - i) l) ≡ f → strip_from side l' w' total' (recs_from (i + 1) (n - (i + 1)) l') ≡ f
+    pub strip_turn : {f : Left Stripped} → strip_from side l w total (recs_from i (n - i) l) ≡ f → strip_from side l' w' total' (recs_from (i + 1) (n - (i + 1)) l') ≡ f
     strip_turn v =
         ap (strip_from side l' w' total') after_turn
         ∙ (rw (ep.1, ep.0, et, es) refl)
         ∙ ap (strip_from side l w total) (sym (rest_step l n i h)) ∙ v
 
-pub strip_done : (side : ℕ) (l : List ℕ) (n i w total : ℕ) {f : Left} → strip_from side l w total (recs_from i (n - i) l) ≡ f → n ≤ i → left (record { answer = 0; count = w; total = total }) l ≡ f
+pub strip_done : (side : ℕ) (l : List ℕ) (n i w total : ℕ) {f : Left Stripped} → strip_from side l w total (recs_from i (n - i) l) ≡ f → n ≤ i → left (record { count = w; total = total }) l ≡ f
 strip_done side l n i w total v h = ap (strip_from side l w total) (sym (rest_end l n i h)) ∙ v
 
 strip_most : (side : ℕ) (l : List ℕ) (w total : ℕ) (ss : List Stream) → (strip_from side l w total ss).out.total ≤ total + sum_ends ss
@@ -86,14 +72,14 @@ unfolding stripped
 stripped_most side l n = omega (arith, strip_most side l 0 0 (records n l))
 
 module _ (c : Conn) (l : List ℕ) (n : ℕ) {g : Bool} (eg : g ≡ sound_b c l n) where
-  pub strip_bad : {d : Stripped} → not g ≡ true → d ≡ record { answer = 2; count = n; total = 0 } → left d l ≡ strip_after c l n
+  pub strip_bad : not g ≡ true → left (Err Range) l ≡ strip_after c l n
   unfolding strip_after
-  strip_bad e ed = rw (ed, ← eg, not-true g e)
+  strip_bad e = rw (← eg, not-true g e)
 
   module _ (e : not g ≡ false) where
-    pub strip_all_done : {x : Left} → x ≡ stripped c.side l n → x ≡ strip_after c l n
+    pub strip_all_done : {d : Stripped} {l' : List ℕ} → left d l' ≡ stripped c.side l n → left (Ok d) l' ≡ strip_after c l n
     unfolding strip_after
-    strip_all_done ex = rw (← eg, not-false g e) ex
+    strip_all_done ex = rw (← eg, not-false g e) (ap (λ (x : Left Stripped). left (Ok x.out) x.words) ex)
 
     pub strip_room : 7 * n ≤ length l
     strip_room = sound_room c l n (sym eg ∙ not-false g e)

@@ -3,21 +3,20 @@
 use mathlib.Core.Path.{◌≡◌, refl, sym, ◌∙◌, ap}
 use mathlib.Core.Logic.{◌⊎◌, inl, inr, ⊎_elim}
 use mathlib.Core.List.{List, [], ◌∷◌}
-use mathlib.Core.Bool.{Bool, true, false, cond, ◌&&◌, ◌||◌, not}
+use mathlib.Core.Bool.{Bool, true, false, cond, ◌&&◌, not}
 use Prim.Native.Nat.{ℕ, zero, suc, ◌+◌, ◌*◌, ◌-◌, ◌/◌, ◌%◌, ◌^◌, ◌<◌, ◌≤◌}
 use native.Mathlib.Numerals.{add-one}
 use native.Mathlib.Omega.{arith}
-use lib.Dec.{eqb, leb, ltb}
+use lib.Dec.{eqb}
 use borrow.Author.Tests.{eq-eqb, ne_eqb, le-leb, lt-leb, ltb-true, not-true, not-false}
 use lib.ListN.{length, get_or, set, length-set}
 use lib.Seq.{get_or-set_same, get_or-set_other, ext_get_or}
 use Rattle.stream_record.specs.declared.Stream.{Stream}
 use Rattle.stream_record.specs.Record.{none}
 use Rattle.stream_conn.specs.declared.Conn.{Conn}
-use Rattle.stream_conn.specs.Books.{admitted, good_conn}
-use Rattle.stream_table.specs.declared.Found.{Found}
-use Rattle.stream_table.specs.declared.Found.TheVariants.{At, Nothing}
-use Rattle.stream_table.specs.Table.{find_in, rec_at, put_rec, recs_from, records, find_from, sum_ends, theirs, good_from, good_numbers, good_rec, sound_b}
+use Rattle.stream_conn.specs.Books.{admitted}
+use Rattle.std.specs.Prelude.{Option, Some, None, is_ok}
+use Rattle.stream_table.specs.Table.{find_in, rec_at, put_rec, recs_from, records, find_from, sum_ends, theirs, good_from, good_numbers, good_rec}
 
 -- ---- a loop's rest
 pub rest_step : (l : List ℕ) (n i : ℕ) → i < n → recs_from i (n - i) l ≡ rec_at l i ∷ recs_from (i + 1) (n - (i + 1)) l
@@ -30,13 +29,13 @@ rest_end l n i h =
     let e : n - i ≡ 0 = omega arith in
     ap (λ (m : ℕ). recs_from i m l) e
 
-pub find_here : (l : List ℕ) (n i id : ℕ) → i < n → get_or l (7 * i) 0 ≡ id → find_from i (recs_from i (n - i) l) id ≡ At i
+pub find_here : (l : List ℕ) (n i id : ℕ) → i < n → get_or l (7 * i) 0 ≡ id → find_from i (recs_from i (n - i) l) id ≡ Some i
 find_here l n i id h e = rw (rest_step l n i h, eq-eqb (get_or l (7 * i) 0) id e)
 
 pub find_on : (l : List ℕ) (n i id : ℕ) → i < n → (get_or l (7 * i) 0 ≡ id → ⊥) → find_from i (recs_from i (n - i) l) id ≡ find_from (i + 1) (recs_from (i + 1) (n - (i + 1)) l) id
 find_on l n i id h e = rw (rest_step l n i h, ne_eqb (get_or l (7 * i) 0) id e, add-one i)
 
-pub find_end : (l : List ℕ) (n i id : ℕ) → n ≤ i → find_from i (recs_from i (n - i) l) id ≡ Nothing
+pub find_end : (l : List ℕ) (n i id : ℕ) → n ≤ i → find_from i (recs_from i (n - i) l) id ≡ None
 find_end l n i id h = rw (rest_end l n i h)
 
 pub find_start : (l : List ℕ) (n id : ℕ) → find_from 0 (recs_from 0 (n - 0) l) id ≡ find_in (records n l) id
@@ -140,18 +139,18 @@ sum_store n l i s room h =
     omega (arith, sum_set (records n l) i s (omega arith))
 
 -- ---- what is found is there
-never : (j : ℕ) → Nothing ≡ At j → ⊥
+never : (j : ℕ) → None ≡ Some j → ⊥
 never j p = let z : ◌≡◌ {A = ℕ} 0 1 = cc in omega arith
 
-by_case : (b : Bool) (k j n : ℕ) (r : Found) → (r ≡ At j → j < suc k + n) → cond b (At k) r ≡ At j → j < k + suc n
+by_case : (b : Bool) (k j n : ℕ) (r : Option ℕ) → (r ≡ Some j → j < suc k + n) → cond b (Some k) r ≡ Some j → j < k + suc n
 by_case true k j n r h p = let q : k ≡ j = cc in omega arith
 by_case false k j n r h p = omega (arith, h p)
 
-found_from : (k : ℕ) (ss : List Stream) (id j : ℕ) → find_from k ss id ≡ At j → j < k + length ss
+found_from : (k : ℕ) (ss : List Stream) (id j : ℕ) → find_from k ss id ≡ Some j → j < k + length ss
 found_from k [] id j e = absurd (never j e)
 found_from k (s ∷ ss) id j e = by_case (eqb s.id id) k j (length ss) (find_from (suc k) ss id) (found_from (suc k) ss id j) e
 
-pub found_below : (n : ℕ) (l : List ℕ) (id j : ℕ) → find_in (records n l) id ≡ At j → j < n
+pub found_below : (n : ℕ) (l : List ℕ) (id j : ℕ) → find_in (records n l) id ≡ Some j → j < n
 unfolding find_in
 found_below n l id j e = omega (arith, found_from 0 (records n l) id j e, length_records n l)
 
@@ -200,7 +199,7 @@ and_right false b e = absurd (never_bool e)
 
 pub good_id : (c : Conn) (s : Stream) → good_rec c s ≡ true → s.id < 2 ^ 62
 unfolding good_rec good_numbers
-good_id c s e = ltb-true s.id (2 ^ 62) (and_left _ _ (and_right (eqb (admitted c s.id) 0) _ e))
+good_id c s e = ltb-true s.id (2 ^ 62) (and_left _ _ (and_right (is_ok (admitted c s.id)) _ e))
 
 -- the same as the loop's returns and its next turn: `s` is the record that was loaded, `g` what `good` said of it, `f` what the whole comes to
 module _ (c : Conn) (l : List ℕ) (n i low left b u : ℕ) {f g : Bool} {s : Stream} (v : good_from c (recs_from i (n - i) l) low left b u ≡ f) (h : i < n) (es : s ≡ rec_at l i) (eg : g ≡ good_rec c s) where
@@ -231,59 +230,6 @@ module _ (c : Conn) (l : List ℕ) (n i low left b u : ℕ) {f g : Bool} {s : St
 pub turn_end : (c : Conn) (l : List ℕ) (n i low left b u : ℕ) {f : Bool} → good_from c (recs_from i (n - i) l) low left b u ≡ f → n ≤ i → (eqb left 0 && (eqb b c.bi.ralloc && eqb u c.uni.ralloc)) ≡ f
 turn_end c l n i low left b u v h = sym (check_end c l n i low left b u h) ∙ v
 
-pub ruleset turns = (turn_bad, turn_order, turn_over, turn_on, turn_end)
-
 pub one_most : (c : Conn) (d id : ℕ) → theirs c d id ≤ 1
 unfolding theirs
 one_most c d id = by_cond (λ (x : ℕ). x ≤ 1) (eqb (id % 2) c.side) _ _ (λ _. omega arith) (λ _. by_cond (λ (x : ℕ). x ≤ 1) (eqb (id / 2 % 2) d) _ _ (λ _. omega arith) (λ _. omega arith))
-
--- ---- everything that a call checks
-module _ (c : Conn) (l : List ℕ) (n : ℕ) where
-  pub sound_many : 256 < n → false ≡ sound_b c l n
-  unfolding sound_b
-  sound_many h = rw (lt-leb n 256 h)
-
-  pub sound_short : n ≤ 256 → length l < 7 * n → false ≡ sound_b c l n
-  unfolding sound_b
-  sound_short h k = rw (le-leb n 256 h, lt-leb (7 * n) (length l) k)
-
-  pub sound_conn : {g : Bool} → n ≤ 256 → 7 * n ≤ length l → g ≡ good_conn c → not g ≡ true → false ≡ sound_b c l n
-  unfolding sound_b
-  sound_conn {g} h k eg e = rw (le-leb n 256 h, le-leb (7 * n) (length l) k, ← eg, not-true g e)
-
-  pub sound_rest : {g r : Bool} {t : ℕ} → n ≤ 256 → 7 * n ≤ length l → g ≡ good_conn c → not g ≡ false → t ≡ c.charged - c.closed → r ≡ good_from c (records n l) 0 t 0 0 → r ≡ sound_b c l n
-  unfolding sound_b
-  sound_rest {g} h k eg e et er = rw (le-leb n 256 h, le-leb (7 * n) (length l) k, ← eg, not-false g e, ← et) er
-
-pub ruleset sounds = (sound_many, sound_short, sound_conn, sound_rest)
-
--- ---- one record
-pub numbers_is : (s : Stream) →
-    (ltb s.id (2 ^ 62) && (leb s.read s.end && (leb s.end s.limit && (ltb s.limit (2 ^ 62)
-    && (ltb s.phase 5 && (ltb s.sending 2
-    && ((ltb 0 s.phase || eqb s.limit 0)
-    && ((ltb s.phase 3 || eqb s.read s.end)
-    && ((eqb (s.id / 2 % 2) 0 || eqb s.sending 0) && eqb s.class 0))))))))) ≡ good_numbers s
-unfolding good_numbers
-numbers_is s = refl
-
-pub good_is : (c : Conn) (s : Stream) {a : ℕ} {g : Bool} → a ≡ admitted c s.id → g ≡ good_numbers s → (eqb a 0 && g) ≡ good_rec c s
-unfolding good_rec
-good_is c s e f = rw (e, f)
-
-pub ruleset goods = (numbers_is, good_is)
-
-module _ (c : Conn) (d id : ℕ) where
-  pub theirs_ours : id % 2 ≡ c.side → 0 ≡ theirs c d id
-  unfolding theirs
-  theirs_ours a = rw (eq-eqb (id % 2) c.side a)
-
-  pub theirs_one : (id % 2 ≡ c.side → ⊥) → id / 2 % 2 ≡ d → 1 ≡ theirs c d id
-  unfolding theirs
-  theirs_one a b = rw (ne_eqb (id % 2) c.side a, eq-eqb (id / 2 % 2) d b)
-
-  pub theirs_other : (id % 2 ≡ c.side → ⊥) → (id / 2 % 2 ≡ d → ⊥) → 0 ≡ theirs c d id
-  unfolding theirs
-  theirs_other a b = rw (ne_eqb (id % 2) c.side a, ne_eqb (id / 2 % 2) d b)
-
-pub ruleset ones = (theirs_ours, theirs_one, theirs_other)

@@ -3,15 +3,13 @@
 -- A place is a stream that the peer may still use, granted and not freed, or one of ours that goes both ways. An id that is admitted and has no place is
 -- a closed stream. Everything is said of the words from the first on, so that the table may be any part of a larger block.
 -- Assumes nothing.
-use Rattle.std.specs.Prelude.{ℕ, zero, suc, ◌+◌, ◌*◌, ◌-◌, ◌/◌, ◌%◌, ◌^◌, Bool, cond, ◌&&◌, ◌||◌, List, [], ◌∷◌, eqb, ltb, leb, get_or, set, length}
-use Rattle.answers.specs.Answers.{OK, RANGE}
+use Rattle.std.specs.Prelude.{ℕ, zero, suc, ◌+◌, ◌*◌, ◌-◌, ◌/◌, ◌%◌, ◌^◌, Bool, cond, ◌&&◌, ◌||◌, List, [], ◌∷◌, eqb, ltb, leb, get_or, set, length, Option, Some, None, Result, Ok, Err, is_ok}
+use Rattle.answers.specs.declared.Refusal.{Refusal}
+use Rattle.answers.specs.declared.Refusal.TheVariants.{Range}
 use Rattle.stream_record.specs.declared.Stream.{Stream}
 use Rattle.stream_conn.specs.declared.Conn.{Conn}
 use Rattle.stream_conn.specs.Books.{admitted, good_conn}
-use Rattle.stream_table.specs.declared.Found.{Found}
-use Rattle.stream_table.specs.declared.Found.TheVariants.{At, Nothing}
-use Rattle.stream_table.specs.declared.Entry.{Entry}
-use Rattle.stream_table.specs.declared.Entry.TheVariants.{No, Absent, Place}
+use Rattle.stream_table.specs.declared.Place.{Place}
 use Rattle.stream_table.specs.declared.Stripped.{Stripped}
 
 -- ---- records in words
@@ -55,7 +53,7 @@ good_numbers s =
 
 -- a record: the peer may send on it, and its numbers are good
 unfoldable pub good_rec : Conn → Stream → Bool
-good_rec c s = eqb (admitted c s.id) 0 && good_numbers s
+good_rec c s = is_ok (admitted c s.id) && good_numbers s
 
 -- in one pass: ids rise from low on, each record is good, the ends come to left, and b and u records of the peer's come before these
 abbrev pub good_from : Conn → List Stream → ℕ → ℕ → ℕ → ℕ → Bool
@@ -74,21 +72,26 @@ sound_b c l n = leb n 256 && (leb (7 * n) (length l) && (good_conn c && good_fro
 
 -- ---- a stream's place
 -- the place of the first record with that id, counted from k
-abbrev pub find_from : ℕ → List Stream → ℕ → Found
-find_from k [] id = Nothing
-find_from k (s ∷ ss) id = cond (eqb s.id id) (At k) (find_from (suc k) ss id)
+abbrev pub find_from : ℕ → List Stream → ℕ → Option ℕ
+find_from k [] id = None
+find_from k (s ∷ ss) id = cond (eqb s.id id) (Some k) (find_from (suc k) ss id)
 
-unfoldable pub find_in : List Stream → ℕ → Found
+unfoldable pub find_in : List Stream → ℕ → Option ℕ
 find_in ss id = find_from 0 ss id
 
-abbrev pub placed : List ℕ → Found → Entry
-placed l Nothing = Absent
-placed l (At i) = Place i (rec_at l i)
+abbrev pub placed : List ℕ → Option ℕ → Option Place
+placed l None = None
+placed l (Some i) = Some (record { at = i; stream = rec_at l i })
+
+-- the stream of a peer that may send on it, or why it may not
+abbrev pub let_in : Option Place → Result (Unit {0}) Refusal → Result (Option Place) Refusal
+let_in p (Ok u) = Ok p
+let_in p (Err why) = Err why
 
 -- what every call on a stream begins with: RANGE on the id and on the form, STATE or LIMIT, then the place
-unfoldable pub entered : Conn → List ℕ → ℕ → ℕ → Entry
+unfoldable pub entered : Conn → List ℕ → ℕ → ℕ → Result (Option Place) Refusal
 entered c l n id =
-    cond (ltb id (2 ^ 62) && sound_b c l n) (cond (eqb (admitted c id) 0) (placed l (find_in (records n l) id)) (No (admitted c id))) (No RANGE)
+    cond (ltb id (2 ^ 62) && sound_b c l n) (let_in (placed l (find_in (records n l) id)) (admitted c id)) (Err Range)
 
 -- ---- places come and go; the words past the last record written stay as they were
 -- place n is one of the table's 256, and lent whole
@@ -125,20 +128,20 @@ removed_at l n i = cond (ltb i n && (leb n 256 && leb (7 * n) (length l))) (remo
 
 -- ---- our streams go (0-RTT is rejected): the peer's move down, and the ends of ours are added up
 -- what is handed back, and the words afterwards
-pub record Left : Type 0 where
-  pub out : Stripped
+pub record Left (A : Type 0) : Type 0 where
+  pub out : A
   pub words : List ℕ
 
-abbrev pub left : Stripped → List ℕ → Left
+abbrev pub left : {A : Type 0} → A → List ℕ → Left A
 left d l = record { out = d; words = l }
 
-abbrev pub strip_from : ℕ → List ℕ → ℕ → ℕ → List Stream → Left
-strip_from side l w total [] = left (record { answer = OK; count = w; total = total }) l
+abbrev pub strip_from : ℕ → List ℕ → ℕ → ℕ → List Stream → Left Stripped
+strip_from side l w total [] = left (record { count = w; total = total }) l
 strip_from side l w total (s ∷ ss) =
     strip_from side (cond (eqb (s.id % 2) side) l (put_rec l w s)) (cond (eqb (s.id % 2) side) w (w + 1)) (cond (eqb (s.id % 2) side) (total + s.end) total) ss
 
-unfoldable pub stripped : ℕ → List ℕ → ℕ → Left
+unfoldable pub stripped : ℕ → List ℕ → ℕ → Left Stripped
 stripped side l n = strip_from side l 0 0 (records n l)
 
-unfoldable pub strip_after : Conn → List ℕ → ℕ → Left
-strip_after c l n = cond (sound_b c l n) (stripped c.side l n) (left (record { answer = RANGE; count = n; total = 0 }) l)
+unfoldable pub strip_after : Conn → List ℕ → ℕ → Left (Result Stripped Refusal)
+strip_after c l n = cond (sound_b c l n) (left (Ok (stripped c.side l n).out) (stripped c.side l n).words) (left (Err Range) l)

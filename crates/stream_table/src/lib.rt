@@ -5,7 +5,7 @@
 ghost use Rattle.std.specs.Prelude.{◌≡◌, ℕ, ◌+◌, ◌*◌, ◌-◌, ◌%◌, ◌<◌, ◌≤◌, cond, leb, ltb, eqb, length};
 ghost use Rattle.stream_table.specs.Table.{theirs, good_numbers, good_rec, good_from, sound_b, rec_at, put_rec, records, find_in, entered, has_place, stored_at, lower, upper, inserted, inserted_at, removed, removed_at, left, stripped, strip_after, sum_ends};
 
-use answers::{OK, RANGE};
+use answers::Refusal;
 use stream_conn::Conn;
 use stream_record::Stream;
 
@@ -18,30 +18,22 @@ pub const WIDTH: usize = 7;
 // Open streams in one table (01, Limits).
 pub const PLACES: usize = 256;
 
-// Where a stream is.
+// A stream's place in the table, and its record.
 #[derive(Clone, Copy)]
-pub enum Found {
-    At(usize),
-    Nothing,
-}
-
-// What every call on a stream begins with comes to: a refusal, a closed stream, or the place with its record.
-#[derive(Clone, Copy)]
-pub enum Entry {
-    No(u8),
-    Absent,
-    Place(usize, Stream),
+pub struct Place {
+    pub at: usize,
+    pub stream: Stream,
 }
 
 // The peer's streams that are left, and the sum of our own streams' ends.
 #[derive(Clone, Copy)]
 pub struct Stripped {
-    pub answer: u8,
     pub count: usize,
     pub total: u64,
 }
 
 // 1 for a stream of the peer in the direction `d`, else 0.
+#[tactic(auto, unfolding(crate::specs::Table::theirs))]
 pub fn count_one(c: Conn, d: u64, id: u64) -> u64
     ensures { result ≡ theirs c d id }
 {
@@ -55,6 +47,7 @@ pub fn count_one(c: Conn, d: u64, id: u64) -> u64
 }
 
 // Every number of a record within its limits.
+#[tactic(auto, unfolding(crate::specs::Table::good_numbers))]
 fn numbers(s: Stream) -> bool
     ensures { result ≡ good_numbers s }
 {
@@ -71,13 +64,14 @@ fn numbers(s: Stream) -> bool
 }
 
 // A record that may stand in the table of this connection.
+#[tactic(auto, unfolding(crate::specs::Table::good_rec))]
 pub fn good(c: Conn, s: Stream) -> bool
     ensures { result ≡ good_rec c s }
 {
-    (c.admit(s.id) == 0) & numbers(s)
+    c.admit(s.id).is_ok() & numbers(s)
 }
 
-// The record at place `i`.
+// The record at place `i`: seven words of a lent table, which the caller lends as numbers.
 fn load(table: &[u64], i: usize) -> Stream
     requires { 7 * i + 7 ≤ length table.now }
     ensures { result ≡ rec_at table.now i }
@@ -110,19 +104,16 @@ fn store(table: &mut [u64], i: usize, s: Stream)
 }
 
 // The place of a stream.
-fn find(table: &[u64], count: usize, id: u64) -> Found
+fn find(table: &[u64], count: usize, id: u64) -> Option<usize>
     requires { 7 * count ≤ length table.now }
     ensures { result ≡ find_in (records count table.now) id }
 {
-    let mut i = 0;
-    while i < count {
-        let at = WIDTH * i;
-        if table[at] == id {
-            return Found::At(i);
+    for i in 0..count {
+        if table[WIDTH * i] == id {
+            return Some(i);
         }
-        i += 1;
     }
-    Found::Nothing
+    None
 }
 
 // Ids rise, each record is good, the ends come to `total`, and the peer's streams are as many as are allocated.
@@ -134,8 +125,7 @@ fn check(c: Conn, table: &[u64], count: usize, total: u64) -> bool
     let mut left = total;
     let mut b = 0;
     let mut u = 0;
-    let mut i = 0;
-    while i < count {
+    for i in 0..count {
         let s = load(table, i);
         if !good(c, s) {
             return false;
@@ -150,12 +140,12 @@ fn check(c: Conn, table: &[u64], count: usize, total: u64) -> bool
         left -= s.end;
         b += count_one(c, 0, s.id);
         u += count_one(c, 1, s.id);
-        i += 1;
     }
     (left == 0) & ((b == c.bi.ralloc) & (u == c.uni.ralloc))
 }
 
 // Everything that a call checks of the records that it is given.
+#[tactic(auto, unfolding(crate::specs::Table::sound_b))]
 pub fn sound(c: Conn, table: &[u64], count: usize) -> bool
     ensures { result ≡ sound_b c table.now count }
 {
@@ -168,34 +158,29 @@ pub fn sound(c: Conn, table: &[u64], count: usize) -> bool
     if !c.good() {
         return false;
     }
-    check(c, table, count, bounded::less(c.charged, c.closed))
+    check(c, table, count, c.charged.saturating_sub(c.closed))
 }
 
-// The checks that every call on a stream begins with, and the stream's place.
-pub fn enter(c: Conn, table: &[u64], count: usize, id: u64) -> Entry
+// The checks that every call on a stream begins with, and the stream's place; none where the stream is closed.
+pub fn enter(c: Conn, table: &[u64], count: usize, id: u64) -> Result<Option<Place>, Refusal>
     ensures { result ≡ entered c table.now count id }
 {
     if id >= TOP {
-        return Entry::No(RANGE);
+        return Err(Refusal::Range);
     }
     if !sound(c, table, count) {
-        return Entry::No(RANGE);
+        return Err(Refusal::Range);
     }
-    let a = c.admit(id);
-    if a != 0 {
-        return Entry::No(a);
-    }
-    let f = find(table, count, id);
-    match f {
-        Found::At(i) => {
-            let s = load(table, i);
-            Entry::Place(i, s)
-        }
-        Found::Nothing => Entry::Absent,
-    }
+    c.admit(id)?;
+    let Some(at) = find(table, count, id) else {
+        return Ok(None);
+    };
+    let stream = load(table, at);
+    Ok(Some(Place { at, stream }))
 }
 
 // Is there a place `n`: one of the table's, and lent whole.
+#[tactic(auto, unfolding(crate::specs::Table::has_place))]
 pub fn has(table: &[u64], n: usize) -> bool
     ensures { result ≡ has_place table.now n }
 {
@@ -206,6 +191,7 @@ pub fn has(table: &[u64], n: usize) -> bool
 }
 
 // The record `s` goes to place `i`, if there is one.
+#[tactic(auto, unfolding(crate::specs::Table::stored_at, crate::specs::Table::has_place))]
 pub fn put(table: &mut [u64], i: usize, s: Stream)
     ensures { table.new ≡ stored_at table.old i s }
 {
@@ -218,19 +204,13 @@ pub fn put(table: &mut [u64], i: usize, s: Stream)
 fn lower(a: Stream, b: Stream) -> Stream
     ensures { result ≡ lower a b }
 {
-    if a.id < b.id {
-        return a;
-    }
-    b
+    if a.id < b.id { a } else { b }
 }
 
 fn upper(a: Stream, b: Stream) -> Stream
     ensures { result ≡ upper a b }
 {
-    if a.id < b.id {
-        return b;
-    }
-    a
+    if a.id < b.id { b } else { a }
 }
 
 // One record more: each place keeps the lower id of its own and the one in hand.
@@ -239,17 +219,16 @@ fn shift_up(table: &mut [u64], count: usize, s: Stream)
     ensures { table.new ≡ inserted table.old count s }
 {
     let mut hand = s;
-    let mut i = 0;
-    while i < count {
+    for i in 0..count {
         let t = load(table, i);
         store(table, i, lower(hand, t));
         hand = upper(hand, t);
-        i += 1;
     }
     store(table, count, hand);
 }
 
 // One more record, in the order of ids, if there is a place for it.
+#[tactic(auto, unfolding(crate::specs::Table::inserted_at, crate::specs::Table::has_place))]
 pub fn insert(table: &mut [u64], count: usize, s: Stream)
     ensures { table.new ≡ inserted_at table.old count s }
 {
@@ -264,15 +243,14 @@ fn shift_down(table: &mut [u64], count: usize, at: usize)
     requires { (at < count) × (7 * count ≤ length table.old) }
     ensures { table.new ≡ removed table.old count at }
 {
-    let mut i = at;
-    while i + 1 < count {
+    for i in at..count - 1 {
         let t = load(table, i + 1);
         store(table, i, t);
-        i += 1;
     }
 }
 
 // The record at place `at` goes, if it is one of the table's.
+#[tactic(auto, unfolding(crate::specs::Table::removed_at))]
 pub fn remove(table: &mut [u64], count: usize, at: usize)
     ensures { table.new ≡ removed_at table.old count at }
 {
@@ -318,30 +296,20 @@ fn strip_all(side: u64, table: &mut [u64], count: usize) -> Stripped
 {
     let mut w = 0;
     let mut total = 0;
-    let mut i = 0;
-    while i < count {
+    for i in 0..count {
         let s = load(table, i);
         w = put_theirs(table, w, s, side);
         total = add_ours(total, s, side);
-        i += 1;
     }
-    Stripped {
-        answer: OK,
-        count: w,
-        total,
-    }
+    Stripped { count: w, total }
 }
 
 // Our streams go: the peer's are left, with the sum of the ends of those that went.
-pub fn strip(c: Conn, table: &mut [u64], count: usize) -> Stripped
+pub fn strip(c: Conn, table: &mut [u64], count: usize) -> Result<Stripped, Refusal>
     ensures { left result table.new ≡ strip_after c table.old count }
 {
     if !sound(c, table, count) {
-        return Stripped {
-            answer: RANGE,
-            count,
-            total: 0,
-        };
+        return Err(Refusal::Range);
     }
-    strip_all(c.side, table, count)
+    Ok(strip_all(c.side, table, count))
 }

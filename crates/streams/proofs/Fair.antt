@@ -1,26 +1,27 @@
 -- What a step may come to: no more is charged than there is room for, and no more is shut than was charged. By the cases of each step.
 -- Assumes nothing.
-use mathlib.Core.Path.{◌≡◌}
-use mathlib.Core.Bool.{Bool, true, false, cond, ◌&&◌, ◌||◌}
-use Prim.Native.Nat.{ℕ, ◌+◌, ◌-◌, ◌^◌, ◌≤◌, ◌<◌, min, max}
+use mathlib.Core.Bool.{Bool, ◌&&◌, ◌||◌}
+use Prim.Native.Nat.{ℕ, ◌+◌, ◌-◌, ◌^◌, ◌≤◌, max}
 use native.Mathlib.Omega.{arith}
 use lib.Dec.{eqb, ltb, leb}
 use borrow.Author.Tests.{ltb-false}
+use Rattle.std.specs.Prelude.{Option, Ok}
 use Rattle.stream_record.specs.declared.Stream.{Stream}
 use Rattle.stream_record.specs.declared.Step.{Step}
 use Rattle.stream_record.specs.Record.{kept, took, cut, was_reset, halted, read_on, seen_by, announced, sent_done}
 use Rattle.stream_table.proofs.Tables.{by_cond}
+use Rattle.streams.specs.Calls.{Fair}
 
 -- ---- what a step may come to: no more is charged than there is room for, and no more is shut than was charged
-abbrev pub Fair : Stream → ℕ → Step → Type 0
-Fair s m p = (p.charge ≤ m) × (p.shut ≤ s.end + p.charge)
+abbrev pub FairStep : Stream → ℕ → Step → Type 0
+FairStep s m p = (p.charge ≤ m) × (p.shut ≤ s.end + p.charge)
 
-kept_fair : (s : Stream) (m e : ℕ) (fin : Bool) → s.end ≤ e → e - s.end ≤ m → Fair s m (kept s e fin)
+kept_fair : (s : Stream) (m e : ℕ) (fin : Bool) → s.end ≤ e → e - s.end ≤ m → FairStep s m (kept s e fin)
 unfolding kept
 kept_fair s m e fin h r =
-    by_cond (Fair s m) (eqb s.phase 4) _ _
-    (λ _. by_cond (Fair s m) fin _ _ (λ _. (omega arith, omega arith)) (λ _. (omega arith, omega arith)))
-    (λ _. by_cond (Fair s m) fin _ _ (λ _. (omega arith, omega arith)) (λ _. (omega arith, omega arith)))
+    by_cond (FairStep s m) (eqb s.phase 4) _ _
+    (λ _. by_cond (FairStep s m) fin _ _ (λ _. (omega arith, omega arith)) (λ _. (omega arith, omega arith)))
+    (λ _. by_cond (FairStep s m) fin _ _ (λ _. (omega arith, omega arith)) (λ _. (omega arith, omega arith)))
 
 pub took_fair : (s : Stream) (to : ℕ) (fin : Bool) (m : ℕ) → Fair s m (took s to fin m)
 unfolding took
@@ -33,11 +34,11 @@ took_fair s to fin m =
     by_cond (Fair s m) (ltb m (to - s.end)) _ _ (λ _. (omega arith, omega arith)) (λ h.
     kept_fair s m (max s.end to) fin (omega arith) (omega (arith, ltb-false m (to - s.end) h))))))))
 
-cut_fair : (s : Stream) (final m : ℕ) → final - s.end ≤ m → Fair s m (cut s final)
+cut_fair : (s : Stream) (final m : ℕ) → final - s.end ≤ m → Fair s m (Ok (cut s final))
 unfolding cut
 cut_fair s final m h =
-    by_cond (Fair s m) (eqb s.phase 3) _ _ (λ _. (omega arith, omega arith)) (λ _.
-    by_cond (Fair s m) (eqb s.phase 4) _ _ (λ _. (omega arith, omega arith)) (λ _. (omega arith, omega arith)))
+    by_cond (λ (o : Option Step). Fair s m (Ok o)) (eqb s.phase 3) _ _ (λ _. (omega arith, omega arith)) (λ _.
+    by_cond (λ (o : Option Step). Fair s m (Ok o)) (eqb s.phase 4) _ _ (λ _. (omega arith, omega arith)) (λ _. (omega arith, omega arith)))
 
 pub reset_fair : (s : Stream) (final m : ℕ) → Fair s m (was_reset s final m)
 unfolding was_reset

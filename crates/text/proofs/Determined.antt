@@ -1,5 +1,5 @@
 -- Each public promise fixes its outcome, since it is an equation of all that is handed back and of the lent buffer. Assumes nothing.
-use mathlib.Core.Path.{◌≡◌, refl, sym, ap, ◌∙◌}
+use mathlib.Core.Path.{refl, sym, ap, ◌∙◌}
 use mathlib.Core.List.{List}
 use Prim.Native.Nat.{ℕ}
 use Rattle.answers.proofs.Promise.{Whole, Open, FixedBy}

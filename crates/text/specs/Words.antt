@@ -1,6 +1,6 @@
 -- The words of a line: what stands between blanks. A byte up to 32, the space, is a blank, and what follows the sign # is a note.
 -- Assumes nothing.
-use Rattle.std.specs.Prelude.{ℕ, zero, suc, ◌+◌, ◌-◌, ◌≤◌, List, [], ◌∷◌, Bool, true, false, cond, not, ◌&&◌, length, take, drop, ltb, leb, eqb}
+use Rattle.std.specs.Prelude.{ℕ, suc, ◌+◌, ◌-◌, ◌≤◌, List, [], ◌∷◌, Bool, true, false, cond, not, ◌&&◌, length, take, drop, ltb, leb, eqb}
 use Rattle.text.specs.declared.Word.{Word}
 
 -- how many elements at the front of a list have a property

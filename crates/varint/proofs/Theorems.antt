@@ -11,11 +11,11 @@ use lib.ListN.{get_or, length, take, drop}
 use lib.Seq.{get_or_at, take-suc}
 use lib.Arith.{mod-mul}
 use lib.Pow.{pow-lt}
+use Rattle.std.specs.Prelude.{Ok}
 use Rattle.answers.proofs.Tests.{split}
 use Rattle.big_endian.specs.Bytes.{bytes}
 use Rattle.big_endian.proofs.Laws.{length_bytes}
-use Rattle.varint.specs.Varint.{width, digits, log_of, read_varint, len_of, form, Fits, encode, write_varint}
-use Rattle.varint.specs.declared.Got.TheVariants.{Value}
+use Rattle.varint.specs.Varint.{width, digits, log_of, read_varint, len_of, form, Fits, encode, write_varint, decoded}
 use Rattle.varint.proofs.Laws.{width_1, width_2, width_4, width_8, digits_lt, reads_value, writes_len, size_fits, reads_short, log_0, log_1, log_2, log_3}
 
 pub length_form : (k v : ℕ) → length (form k v) ≡ 2 ^ k
@@ -43,32 +43,32 @@ digits_bytes (suc n) x rest =
     let m : x % (64 * 256 ^ n * 256) ≡ x / 256 % (64 * 256 ^ n) * 256 + x % 256 = mod-mul x {m = 64 * 256 ^ n} {c = 256} (omega (arith, one-le-pow n 256 (lit< tt))) (lit< tt) in
     ap (λ (d : ℕ). d * 256 + get_or (bytes (suc (suc n)) x ++ rest) (suc n) 0) i ∙ ap (λ (d : ℕ). x / 256 % (64 * 256 ^ n) * 256 + d) g ∙ sym (ap (λ (d : ℕ). x % d) e ∙ m)
 
-round_1 : (v : ℕ) (rest : List ℕ) → v < 64 → read_varint (bytes 1 v ++ rest) ≡ Value v 1
+round_1 : (v : ℕ) (rest : List ℕ) → v < 64 → read_varint (bytes 1 v ++ rest) ≡ Ok (decoded v 1)
 round_1 v rest h =
     let w = width_1 (v % 256) (omega arith) in
     let d : digits (bytes 1 v ++ rest) 0 ≡ v = rw (digits_bytes 0 v rest) (omega arith) in
     rw (reads_value (bytes 1 v ++ rest) (rw w (omega arith)), w, d)
 
-round_2 : (v : ℕ) (rest : List ℕ) → v < 16384 → read_varint (bytes 2 (16384 + v) ++ rest) ≡ Value v 2
+round_2 : (v : ℕ) (rest : List ℕ) → v < 16384 → read_varint (bytes 2 (16384 + v) ++ rest) ≡ Ok (decoded v 2)
 round_2 v rest h =
     let w = width_2 ((16384 + v) / 256 % 256) (omega arith) (omega arith) in
     let d : digits (bytes 2 (16384 + v) ++ rest) 1 ≡ v = rw (digits_bytes 1 (16384 + v) rest) (omega arith) in
     rw (reads_value (bytes 2 (16384 + v) ++ rest) (rw w (omega arith)), w, d)
 
-round_4 : (v : ℕ) (rest : List ℕ) → v < 1073741824 → read_varint (bytes 4 (2147483648 + v) ++ rest) ≡ Value v 4
+round_4 : (v : ℕ) (rest : List ℕ) → v < 1073741824 → read_varint (bytes 4 (2147483648 + v) ++ rest) ≡ Ok (decoded v 4)
 round_4 v rest h =
     let w = width_4 ((2147483648 + v) / 256 / 256 / 256 % 256) (omega arith) (omega arith) in
     let d : digits (bytes 4 (2147483648 + v) ++ rest) 3 ≡ v = rw (digits_bytes 3 (2147483648 + v) rest) (omega arith) in
     rw (reads_value (bytes 4 (2147483648 + v) ++ rest) (rw w (omega arith)), w, d)
 
-round_8 : (v : ℕ) (rest : List ℕ) → v < 4611686018427387904 → read_varint (bytes 8 (13835058055282163712 + v) ++ rest) ≡ Value v 8
+round_8 : (v : ℕ) (rest : List ℕ) → v < 4611686018427387904 → read_varint (bytes 8 (13835058055282163712 + v) ++ rest) ≡ Ok (decoded v 8)
 round_8 v rest h =
     let w = width_8 ((13835058055282163712 + v) / 256 / 256 / 256 / 256 / 256 / 256 / 256 % 256) (omega arith) (omega arith) in
     let d : digits (bytes 8 (13835058055282163712 + v) ++ rest) 7 ≡ v = rw (digits_bytes 7 (13835058055282163712 + v) rest) (omega arith) in
     rw (reads_value (bytes 8 (13835058055282163712 + v) ++ rest) (rw w (omega arith)), w, d)
 
 -- A number in any length that it fits is read, whatever follows.
-pub reads_form : (k v : ℕ) (rest : List ℕ) → Fits k v → read_varint (form k v ++ rest) ≡ Value v (2 ^ k)
+pub reads_form : (k v : ℕ) (rest : List ℕ) → Fits k v → read_varint (form k v ++ rest) ≡ Ok (decoded v (2 ^ k))
 unfolding form
 reads_form zero v rest h = rw (zero-add v) (round_1 v rest h.1)
 reads_form (suc zero) v rest h = round_2 v rest h.1
@@ -91,7 +91,7 @@ short_fits v h =
     (split v 64)
 
 -- What is written is read back, whatever follows.
-pub round : (v : ℕ) (rest : List ℕ) → v < 2 ^ 62 → read_varint (encode v ++ rest) ≡ Value v (len_of v)
+pub round : (v : ℕ) (rest : List ℕ) → v < 2 ^ 62 → read_varint (encode v ++ rest) ≡ Ok (decoded v (len_of v))
 unfolding encode
 round v rest h = reads_form (log_of v) v rest (short_fits v h)
 
@@ -137,21 +137,22 @@ module _ (s : List ℕ) (h : (k : ℕ) → get_or s k 0 < 256) where
   form_of (suc (suc (suc (suc k)))) e l = let z : ⊥ = omega (arith, h 0) in absurd z
 
   -- What is read is a form of the value: its length is a power of two, and its bytes are that form.
-  pub read_form : (v n : ℕ) → read_varint s ≡ Value v n → (k : ℕ) × (Fits k v × ((n ≡ 2 ^ k) × (take n s ≡ form k v)))
+  pub read_form : (v n : ℕ) → read_varint s ≡ Ok (decoded v n) → (k : ℕ) × (Fits k v × ((n ≡ 2 ^ k) × (take n s ≡ form k v)))
   unfolding width
   read_form v n e =
       ⊎_elim
       (λ l. let y : ◌≡◌ {A = ℕ} 0 1 = cc (reads_short s l) in let z : ⊥ = omega arith in absurd z)
       (λ l.
       let k = get_or s 0 0 / 64 in
-      let w : n ≡ 2 ^ k = cc (reads_value s l) in
-      let d : v ≡ digits s (2 ^ k - 1) = cc (reads_value s l) in
+      let r : decoded v n ≡ decoded (digits s (2 ^ k - 1)) (2 ^ k) = cc (reads_value s l) in
+      let w : n ≡ 2 ^ k = ap (λ d. d.len) r in
+      let d : v ≡ digits s (2 ^ k - 1) = ap (λ d. d.value) r in
       let f = form_of k refl l in
       (k, (rw d f.0, (w, rw (w, d) f.1))))
       (split (length s) (width (get_or s 0 0)))
 
   -- What is read in its shortest length is what is written.
-  pub shortest : (v n : ℕ) → read_varint s ≡ Value v n → n ≡ len_of v → take n s ≡ encode v
+  pub shortest : (v n : ℕ) → read_varint s ≡ Ok (decoded v n) → n ≡ len_of v → take n s ≡ encode v
   unfolding encode
   shortest v n e m =
       let f = read_form v n e in

@@ -2,13 +2,11 @@
 -- first; the top two bits of the first byte are the base-2 logarithm of that length, and the other bits are the number. A reader takes every
 -- length; a writer takes the least that holds the number. Bytes are numbers, and a buffer is the list of its bytes.
 -- Assumes nothing.
-use Rattle.std.specs.Prelude.{ℕ, zero, suc, ◌+◌, ◌-◌, ◌*◌, ◌/◌, ◌%◌, ◌^◌, ◌<◌, ◌≤◌, List, ◌++◌, cond, length, get_or, drop, ltb, leb}
-use Rattle.answers.specs.Answers.{SHORT, RANGE, ROOM}
+use Rattle.std.specs.Prelude.{ℕ, zero, suc, ◌+◌, ◌-◌, ◌*◌, ◌/◌, ◌%◌, ◌^◌, ◌<◌, ◌≤◌, List, ◌++◌, Result, Ok, Err, cond, length, get_or, drop, ltb, leb}
+use Rattle.answers.specs.declared.Refusal.{Refusal}
+use Rattle.answers.specs.declared.Refusal.TheVariants.{Short, Range, Room}
 use Rattle.big_endian.specs.Bytes.{bytes}
-use Rattle.varint.specs.declared.Got.{Got}
-use Rattle.varint.specs.declared.Got.TheVariants as got
-use Rattle.varint.specs.declared.Wrote.{Wrote}
-use Rattle.varint.specs.declared.Wrote.TheVariants as wrote
+use Rattle.varint.specs.declared.Decoded.{Decoded}
 
 -- The length by the first byte: its top two bits are the logarithm.
 unfoldable pub width : ℕ → ℕ
@@ -19,25 +17,28 @@ abbrev pub digits : List ℕ → ℕ → ℕ
 digits s zero = get_or s 0 0 % 64
 digits s (suc n) = digits s n * 256 + get_or s (suc n) 0
 
+abbrev pub decoded : ℕ → ℕ → Decoded
+decoded v n = record { value = v; len = n }
+
 -- A whole integer at the start of s, in whatever length, or SHORT.
-unfoldable pub read_varint : List ℕ → Got
+unfoldable pub read_varint : List ℕ → Result Decoded Refusal
 read_varint s =
     cond (leb (width (get_or s 0 0)) (length s))
-    (got.Value (digits s (width (get_or s 0 0) - 1)) (width (get_or s 0 0)))
-    (got.Refused SHORT)
+    (Ok (decoded (digits s (width (get_or s 0 0) - 1)) (width (get_or s 0 0))))
+    (Err Short)
 
 -- The same at a position: past the end nothing stands.
-unfoldable pub read_at : List ℕ → ℕ → Got
+unfoldable pub read_at : List ℕ → ℕ → Result Decoded Refusal
 read_at s at = read_varint (drop at s)
 
 -- What a reader's caller goes on with: the value is below 2 ^ 62, and its bytes are there.
-abbrev pub sound : List ℕ → Got → Type 0
-sound s (got.Value v n) = (v < 2 ^ 62) × ((1 ≤ n) × (n ≤ length s))
-sound s (got.Refused w) = Unit
+abbrev pub sound : List ℕ → Result Decoded Refusal → Type 0
+sound s (Ok d) = (d.value < 2 ^ 62) × ((1 ≤ d.len) × (d.len ≤ length s))
+sound s (Err w) = Unit
 
-abbrev pub sound_at : List ℕ → ℕ → Got → Type 0
-sound_at s at (got.Value v n) = (v < 2 ^ 62) × ((1 ≤ n) × (at + n ≤ length s))
-sound_at s at (got.Refused w) = Unit
+abbrev pub sound_at : List ℕ → ℕ → Result Decoded Refusal → Type 0
+sound_at s at (Ok d) = (d.value < 2 ^ 62) × ((1 ≤ d.len) × (at + d.len ≤ length s))
+sound_at s at (Err w) = Unit
 
 -- The logarithm of the shortest length that holds v, below 2 ^ 62: 6, 14, 30 or 62 bits are usable.
 unfoldable pub log_of : ℕ → ℕ
@@ -68,15 +69,15 @@ encode v = form (log_of v) v
 
 -- An outcome of writing: the answer, and what the buffer then holds.
 pub record Done : Type 0 where
-  pub out : Wrote
+  pub out : Result ℕ Refusal
   pub mem : List ℕ
 
-abbrev pub done : Wrote → List ℕ → Done
+abbrev pub done : Result ℕ Refusal → List ℕ → Done
 done r m = record { out = r; mem = m }
 
 -- RANGE before ROOM, and then the shortest form stands at the start with what was behind it as it was.
 unfoldable pub write_varint : List ℕ → ℕ → Done
 write_varint out v =
     cond (ltb v (2 ^ 62))
-    (cond (leb (len_of v) (length out)) (done (wrote.Len (len_of v)) (encode v ++ drop (len_of v) out)) (done (wrote.Refused ROOM) out))
-    (done (wrote.Refused RANGE) out)
+    (cond (leb (len_of v) (length out)) (done (Ok (len_of v)) (encode v ++ drop (len_of v) out)) (done (Err Room) out))
+    (done (Err Range) out)

@@ -2,75 +2,60 @@
 // whatever length it has, and is written in its shortest.
 #![tactic(auto)]
 
-ghost use Rattle.std.specs.Prelude.{◌≡◌, ◌≤◌, ◌<◌, ◌^◌, length, drop};
+ghost use Rattle.std.specs.Prelude.{◌≡◌, ◌<◌, ◌^◌};
 ghost use Rattle.varint.specs.Varint.{width, read_varint, read_at, sound, sound_at, size_of, marked, done, write_varint};
 
-// What reading finds: a value with the number of bytes that it took, or why there is none.
-#[derive(Clone, Copy)]
-pub enum Got {
-    Value { value: u64, len: usize },
-    Refused(u8),
-}
+use answers::Refusal;
 
-// What writing did: how many bytes it wrote, or why none.
-#[derive(Clone, Copy)]
-pub enum Wrote {
-    Len(usize),
-    Refused(u8),
+// A varint that was read, with the number of bytes that it took.
+#[derive(Clone, Copy, Debug, PartialEq, Eq)]
+pub struct Decoded {
+    pub value: u64,
+    pub len: usize,
 }
 
 // No varint is as large as this (section 16: 62 bits are usable).
 const LIMIT: u64 = 1 << 62;
 
-// How many bytes an integer has whose first byte is b.
+// How many bytes an integer has whose first byte is b: the top two bits are the logarithm.
 fn width_of(b: u8) -> usize
     ensures { result ≡ width b }
 {
-    if b < 64 {
-        1
-    } else if b < 128 {
-        2
-    } else if b < 192 {
-        4
-    } else {
-        8
-    }
+    1 << (b / 64)
 }
 
 // The integer at the start of s, in whatever length it has; SHORT where s ends inside it.
-pub fn read(s: &[u8]) -> Got
+pub fn read(s: &[u8]) -> Result<Decoded, Refusal>
     ensures value { result ≡ read_varint s.now }
     ensures sound { sound s.now result }
 {
-    if s.len() == 0 {
-        return Got::Refused(answers::SHORT);
+    if s.is_empty() {
+        return Err(Refusal::Short);
     }
-    let b = s[0];
-    let len = width_of(b);
-    if s.len() < len {
-        return Got::Refused(answers::SHORT);
-    }
-    let mut value = (b % 64) as u64;
-    let mut i: usize = 1;
-    while i < len {
-        value = value * 256 + s[i] as u64;
-        i += 1;
-    }
-    Got::Value { value, len }
+    let len = width_of(s[0]);
+    let Some(number) = big_endian::get(s, len) else {
+        return Err(Refusal::Short);
+    };
+    // without the top two bits of the first byte
+    Ok(Decoded {
+        value: number & ((1 << (8 * len - 2)) - 1),
+        len,
+    })
 }
 
 // The integer at a position of s; SHORT where s ends inside it or before it.
-pub fn read_at(s: &[u8], at: usize) -> Got
+pub fn read_at(s: &[u8], at: usize) -> Result<Decoded, Refusal>
     ensures value { result ≡ read_at s.now at }
     ensures sound { sound_at s.now at result }
 {
     if s.len() < at {
-        return Got::Refused(answers::SHORT);
+        return Err(Refusal::Short);
     }
     read(&s[at..])
 }
 
 // How many bytes the shortest form of v has; 0 where v is too large to be a varint.
+// A number, not an Option: `size_of` says 0 there, and `size` cannot fail.
 pub fn size(v: u64) -> usize
     ensures { result ≡ size_of v }
 {
@@ -104,16 +89,16 @@ fn mark(v: u64) -> u64
 }
 
 // Writes v in its shortest form at the start of out: RANGE where v is no varint, then ROOM where out is too small, and then nothing is written.
-pub fn write(out: &mut [u8], v: u64) -> Wrote
+pub fn write(out: &mut [u8], v: u64) -> Result<usize, Refusal>
     ensures { done result out.new ≡ write_varint out.old v }
 {
     if LIMIT <= v {
-        return Wrote::Refused(answers::RANGE);
+        return Err(Refusal::Range);
     }
     let n = size(v);
     if out.len() < n {
-        return Wrote::Refused(answers::ROOM);
+        return Err(Refusal::Room);
     }
     big_endian::put(out, n, mark(v));
-    Wrote::Len(n)
+    Ok(n)
 }

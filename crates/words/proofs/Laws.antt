@@ -1,15 +1,15 @@
 -- One law for each return: its premises are the code's tests and what the calls before it promise. They hold by rewriting the definition with those.
 -- Assumes nothing.
-use mathlib.Core.Path.{◌≡◌, refl, sym, ap, ◌∙◌}
+use mathlib.Core.Path.{◌≡◌, refl}
 use mathlib.Core.List.{List, [], ◌∷◌}
-use mathlib.Core.Bool.{Bool, true, false, cond, not}
-use Prim.Native.Nat.{ℕ, zero, suc, ◌+◌, ◌-◌, ◌*◌, ◌%◌, ◌≤◌, ◌<◌}
+use mathlib.Core.Bool.{Bool, true, false}
+use Prim.Native.Nat.{ℕ, zero, suc, ◌+◌, ◌-◌, ◌%◌, ◌≤◌, ◌<◌}
 use native.Mathlib.Omega.{arith}
 use native.Mathlib.Numerals.{add-one}
-use lib.ListN.{length, take, drop, get_or, set, drop_of_length-le}
+use Rattle.std.specs.Prelude.{Some, None}
+use lib.ListN.{length, drop, get_or, set, drop_of_length-le}
 use lib.Seq.{drop-cons}
-use lib.Dec.{ltb, leb, eqb}
-use borrow.Author.Tests.{lt-ltb, le-ltb, le-leb, lt-leb, eq-eqb, ne_eqb, not-true, not-false}
+use borrow.Author.Tests.{lt-ltb, le-ltb, le-leb, lt-leb, eq-eqb, ne_eqb}
 use Rattle.text.specs.declared.Word.{Word}
 use Rattle.text.specs.declared.Number.{Number}
 use Rattle.text.specs.declared.Bytes.{Bytes}
@@ -17,7 +17,7 @@ use Rattle.text.specs.Words.{word_at, spelt, is_end, same}
 use Rattle.text.specs.Numbers.{number_at}
 use Rattle.text.specs.Bytes.{bytes_at, done as doneB}
 use Rattle.words.specs.declared.Cursor.{Cursor}
-use Rattle.words.specs.Words.{failed, pushed, pushed_two, number_taken, option_taken, name_taken, bytes_taken, pairs_from, paired, pairs_taken, numbers_taken, one_taken, words_from, words_taken, Done, done, Both, both}
+use Rattle.words.specs.Words.{failed, pushed, pushed_two, number_taken, option_taken, name_taken, bytes_taken, pairs_from, pairs_taken, numbers_taken, one_taken, words_from, Done, done, Both, both}
 
 -- ---- a number more
 
@@ -40,11 +40,11 @@ push_both c next a b l p q = rw (← p) q
 
 module _ (s : List ℕ) (c : Cursor) (l : List ℕ) where
   module _ {n : Number} (e : n ≡ number_at s c.at) where
-    pub number_in : {r : Done} → n.ok ≡ true → r ≡ pushed c n.next n.value l → r ≡ number_taken s c l
+    pub number_in : {v : ℕ} {r : Done} → n.value ≡ Some v → r ≡ pushed c n.next v l → r ≡ number_taken s c l
     unfolding number_taken
     number_in f g = rw (← e, f) g
 
-    pub number_not : {d : Cursor} → n.ok ≡ false → d ≡ failed c → done d l ≡ number_taken s c l
+    pub number_not : {d : Cursor} → n.value ≡ None → d ≡ failed c → done d l ≡ number_taken s c l
     unfolding number_taken
     number_not f g = rw (← e, f, g)
 
@@ -54,11 +54,11 @@ module _ (s : List ℕ) (c : Cursor) (l : List ℕ) where
     option_none q f g = rw (← k, ← q, f) g
 
     module _ {n : Number} (q : t ≡ same (spelt s w) (45 ∷ [])) (f : t ≡ false) (e : n ≡ number_at s c.at) where
-      pub option_some : {r : Done} → n.ok ≡ true → r ≡ pushed_two c n.next 1 n.value l → r ≡ option_taken s c l
+      pub option_some : {v : ℕ} {r : Done} → n.value ≡ Some v → r ≡ pushed_two c n.next 1 v l → r ≡ option_taken s c l
       unfolding option_taken
       option_some h g = rw (← k, ← q, f, ← e, h) g
 
-      pub option_not : {d : Cursor} → n.ok ≡ false → d ≡ failed c → done d l ≡ option_taken s c l
+      pub option_not : {d : Cursor} → n.value ≡ None → d ≡ failed c → done d l ≡ option_taken s c l
       unfolding option_taken
       option_not h g = rw (← k, ← q, f, ← e, h, g)
 
@@ -76,17 +76,17 @@ module _ (s : List ℕ) (c : Cursor) (l : List ℕ) where
       name_not f p h g = rw (← k, ← q, f, ← p, h, g)
 
   module _ (second : Bool) {b : Bytes} {m : List ℕ} (e : doneB b m ≡ bytes_at s c.at l c.size) where
-    pub bytes_second : b.ok ≡ true → second ≡ true
-        → done (record { ok = c.ok; at = b.next; count = c.count; first = c.first; size = b.end }) m ≡ bytes_taken s c second l
+    pub bytes_second : {v : ℕ} → b.end ≡ Some v → second ≡ true
+        → done (record { ok = c.ok; at = b.next; count = c.count; first = c.first; size = v }) m ≡ bytes_taken s c second l
     unfolding bytes_taken
     bytes_second f g = rw (← e, f, g)
 
-    pub bytes_first : b.ok ≡ true → second ≡ false
-        → done (record { ok = c.ok; at = b.next; count = c.count; first = b.end; size = b.end }) m ≡ bytes_taken s c second l
+    pub bytes_first : {v : ℕ} → b.end ≡ Some v → second ≡ false
+        → done (record { ok = c.ok; at = b.next; count = c.count; first = v; size = v }) m ≡ bytes_taken s c second l
     unfolding bytes_taken
     bytes_first f g = rw (← e, f, g)
 
-    pub bytes_not : {d : Cursor} → b.ok ≡ false → d ≡ failed c → done d m ≡ bytes_taken s c second l
+    pub bytes_not : {d : Cursor} → b.end ≡ None → d ≡ failed c → done d m ≡ bytes_taken s c second l
     unfolding bytes_taken
     bytes_not f g = rw (← e, f, g)
 
@@ -97,11 +97,10 @@ unfolding pairs_from
 pairs_end zero s c l e f = refl
 pairs_end (suc k) s c l e f = rw (← e, f)
 
-pub pairs_on : (k : ℕ) (s : List ℕ) (c : Cursor) (l : List ℕ) {t : Bool} {d : Cursor} {m : List ℕ}
-    → 0 < k → t ≡ is_end s c.at → t ≡ false → done d m ≡ number_taken s c l → pairs_from (k - 1) s d m ≡ pairs_from k s c l
+pub pairs_on : (n i : ℕ) (s : List ℕ) (c : Cursor) (l : List ℕ) {t : Bool} {d : Cursor} {m : List ℕ}
+    → i < n → t ≡ is_end s c.at → t ≡ false → done d m ≡ number_taken s c l → pairs_from (n - (i + 1)) s d m ≡ pairs_from (n - i) s c l
 unfolding pairs_from
-pairs_on zero s c l h e f g = absurd (omega arith)
-pairs_on (suc k) s c l h e f g = let q : suc k - 1 ≡ k = omega arith in rw (q, ← e, f, ← g)
+pairs_on n i s c l h e f g = let q : n - i ≡ suc (n - (i + 1)) = omega arith in rw (q, ← e, f, ← g)
 
 pub pairs_done : (k : ℕ) (s : List ℕ) (c : Cursor) (l : List ℕ) → k ≡ 0 → pairs_from k s c l ≡ done c l
 unfolding pairs_from

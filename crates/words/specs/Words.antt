@@ -1,6 +1,6 @@
 -- The words of an event: what each kind of word adds to the numbers and bytes. A word that does not fit is not passed over, and all is then said not
 -- to have fitted. Assumes nothing.
-use Rattle.std.specs.Prelude.{ℕ, zero, suc, ◌+◌, ◌-◌, ◌%◌, List, [], ◌∷◌, Bool, true, false, cond, ◌&&◌, length, set, ltb, leb, eqb}
+use Rattle.std.specs.Prelude.{ℕ, zero, suc, ◌+◌, ◌-◌, ◌%◌, List, [], ◌∷◌, Option, Some, None, Bool, true, false, cond, length, set, ltb, leb, eqb}
 use Rattle.text.specs.Words.{word_at, spelt, is_end, same}
 use Rattle.text.specs.Numbers.{number_at}
 use Rattle.text.specs.Bytes.{bytes_at}
@@ -23,6 +23,11 @@ pub record Both (A : Type 0) : Type 0 where
 abbrev pub both : {A : Type 0} → A → List ℕ → List ℕ → Both A
 both r n b = record { out = r; numbers = n; bytes = b }
 
+-- what comes of a value, and of none
+abbrev pub on_value : {A : Type 0} → Option ℕ → (ℕ → A) → A → A
+on_value (Some v) f d = f v
+on_value None f d = d
+
 abbrev pub failed : Cursor → Cursor
 failed c = record { ok = false; at = c.at; count = c.count; first = c.first; size = c.size }
 
@@ -37,13 +42,13 @@ pushed_two c next a b l = pushed (pushed c next a l).out next b (pushed c next a
 
 -- n: a number
 unfoldable pub number_taken : List ℕ → Cursor → List ℕ → Done
-number_taken s c l = cond (number_at s c.at).ok (pushed c (number_at s c.at).next (number_at s c.at).value l) (done (failed c) l)
+number_taken s c l = on_value (number_at s c.at).value (λ v. pushed c (number_at s c.at).next v l) (done (failed c) l)
 
 -- o: a number, or -
 unfoldable pub option_taken : List ℕ → Cursor → List ℕ → Done
 option_taken s c l =
     cond (same (spelt s (word_at s c.at)) (45 ∷ [])) (pushed_two c (word_at s c.at).end 0 0 l)
-    (cond (number_at s c.at).ok (pushed_two c (number_at s c.at).next 1 (number_at s c.at).value l) (done (failed c) l))
+    (on_value (number_at s c.at).value (λ v. pushed_two c (number_at s c.at).next 1 v l) (done (failed c) l))
 
 -- one of two names
 unfoldable pub name_taken : List ℕ → Cursor → List ℕ → List ℕ → List ℕ → Done
@@ -54,16 +59,8 @@ name_taken s c x y l =
 -- h, g: a byte string, the first or the second
 unfoldable pub bytes_taken : List ℕ → Cursor → Bool → List ℕ → Done
 bytes_taken s c second l =
-    cond (bytes_at s c.at l c.size).out.ok
-    (done
-    (record {
-      ok = c.ok;
-      at = (bytes_at s c.at l c.size).out.next;
-      count = c.count;
-      first = cond second c.first (bytes_at s c.at l c.size).out.end;
-      size = (bytes_at s c.at l c.size).out.end;
-    })
-    (bytes_at s c.at l c.size).mem)
+    on_value (bytes_at s c.at l c.size).out.end
+    (λ e. done (record { ok = c.ok; at = (bytes_at s c.at l c.size).out.next; count = c.count; first = cond second c.first e; size = e }) (bytes_at s c.at l c.size).mem)
     (done (failed c) (bytes_at s c.at l c.size).mem)
 
 -- numbers up to the end of the line; k bounds how many words there can be

@@ -6,7 +6,8 @@ ghost use Rattle.std.specs.Prelude.{◌≡◌, length};
 ghost use Rattle.words.specs.Words.{failed, pushed, pushed_two, number_taken, option_taken, name_taken, bytes_taken, pairs_from, pairs_taken, numbers_taken, one_taken, words_taken, done, both};
 
 // How far a line is read: whether all words fitted, the place behind the last, and how many numbers and bytes there are.
-#[derive(Clone, Copy)]
+// `ok` is a flag and no `Result`: behind a word that does not fit the later words are tried too, and `words_taken` says what they leave in memory.
+#[derive(Clone, Copy, Debug, PartialEq, Eq)]
 pub struct Cursor {
     pub ok: bool,
     pub at: usize,
@@ -16,25 +17,25 @@ pub struct Cursor {
 }
 
 // A word that does not fit is not passed over.
-fn fail(mut c: Cursor) -> Cursor
+fn fail(c: Cursor) -> Cursor
     ensures { result ≡ failed c }
 {
-    c.ok = false;
-    c
+    Cursor { ok: false, ..c }
 }
 
 // One number more.
-fn push(mut c: Cursor, next: usize, v: u64, numbers: &mut [u64]) -> Cursor
+fn push(c: Cursor, next: usize, v: u64, numbers: &mut [u64]) -> Cursor
     ensures { done result numbers.new ≡ pushed c next v numbers.old }
 {
-    let k = c.count;
-    if numbers.len() <= k {
+    if numbers.len() <= c.count {
         return fail(c);
     }
-    numbers[k] = v;
-    c.at = next;
-    c.count = k + 1;
-    c
+    numbers[c.count] = v;
+    Cursor {
+        at: next,
+        count: c.count + 1,
+        ..c
+    }
 }
 
 // Two numbers more.
@@ -50,10 +51,10 @@ fn take_number(line: &[u8], c: Cursor, numbers: &mut [u64]) -> Cursor
     ensures { done result numbers.new ≡ number_taken line.now c numbers.old }
 {
     let n = text::number_at(line, c.at);
-    if n.ok {
-        return push(c, n.next, n.value, numbers);
+    match n.value {
+        Some(v) => push(c, n.next, v, numbers),
+        None => fail(c),
     }
-    fail(c)
 }
 
 // A word that is a number or `-`: 1 and the number, or 0 and 0.
@@ -61,16 +62,14 @@ fn take_option(line: &[u8], c: Cursor, numbers: &mut [u64]) -> Cursor
     ensures { done result numbers.new ≡ option_taken line.now c numbers.old }
 {
     let w = text::word_at(line, c.at);
-    let start = w.start;
-    let end = w.end;
-    if text::same(&line[start..end], b"-") {
-        return push_two(c, end, 0, 0, numbers);
+    if text::same(&line[w.start..w.end], b"-") {
+        return push_two(c, w.end, 0, 0, numbers);
     }
     let n = text::number_at(line, c.at);
-    if n.ok {
-        return push_two(c, n.next, 1, n.value, numbers);
+    match n.value {
+        Some(v) => push_two(c, n.next, 1, v, numbers),
+        None => fail(c),
     }
-    fail(c)
 }
 
 // A word that is one of two names: 0 for the first, 1 for the second.
@@ -78,48 +77,43 @@ fn take_name(line: &[u8], c: Cursor, left: &[u8], right: &[u8], numbers: &mut [u
     ensures { done result numbers.new ≡ name_taken line.now c left.now right.now numbers.old }
 {
     let w = text::word_at(line, c.at);
-    let start = w.start;
-    let end = w.end;
-    if text::same(&line[start..end], left) {
-        return push(c, end, 0, numbers);
+    let word = &line[w.start..w.end];
+    if text::same(word, left) {
+        push(c, w.end, 0, numbers)
+    } else if text::same(word, right) {
+        push(c, w.end, 1, numbers)
+    } else {
+        fail(c)
     }
-    if text::same(&line[start..end], right) {
-        return push(c, end, 1, numbers);
-    }
-    fail(c)
 }
 
 // A word that is a byte string, behind those before it.
-fn take_bytes(line: &[u8], mut c: Cursor, second: bool, bytes: &mut [u8]) -> Cursor
+fn take_bytes(line: &[u8], c: Cursor, second: bool, bytes: &mut [u8]) -> Cursor
     ensures { done result bytes.new ≡ bytes_taken line.now c second bytes.old }
 {
     let b = text::bytes_at(line, c.at, bytes, c.size);
-    if b.ok {
-        c.at = b.next;
-        c.size = b.end;
-        if second {
-            return c;
-        }
-        c.first = b.end;
-        return c;
+    let Some(end) = b.end else {
+        return fail(c);
+    };
+    Cursor {
+        at: b.next,
+        first: if second { c.first } else { end },
+        size: end,
+        ..c
     }
-    fail(c)
 }
 
 // All words that are left, which are numbers.
-fn take_rest(line: &[u8], c: Cursor, numbers: &mut [u64]) -> Cursor
+fn take_rest(line: &[u8], mut c: Cursor, numbers: &mut [u64]) -> Cursor
     ensures { done result numbers.new ≡ pairs_from (length line.now) line.now c numbers.old }
 {
-    let mut d = c;
-    let mut turns = line.len();
-    while turns > 0 {
-        if text::is_end(line, d.at) {
-            return d;
+    for _turn in 0..line.len() {
+        if text::is_end(line, c.at) {
+            return c;
         }
-        turns -= 1;
-        d = take_number(line, d, numbers);
+        c = take_number(line, c, numbers);
     }
-    d
+    c
 }
 
 // All words that are left, which are pairs of numbers.
@@ -127,16 +121,14 @@ fn take_pairs(line: &[u8], c: Cursor, numbers: &mut [u64]) -> Cursor
     ensures { done result numbers.new ≡ pairs_taken line.now c numbers.old }
 {
     let d = take_rest(line, c, numbers);
-    if d.count < c.count {
-        return fail(d);
-    }
-    if (d.count - c.count) % 2 != 0 {
+    if d.count < c.count || (d.count - c.count) % 2 != 0 {
         return fail(d);
     }
     d
 }
 
 // The word or words of a kind that adds numbers: n a number, o a number or `-`, d a direction, s a side, * pairs of numbers.
+// A kind is the letter that stands for it in a grammar, and no enum: one that stands for none adds nothing (`numbers_taken`).
 fn one_of_numbers(line: &[u8], kind: u8, c: Cursor, numbers: &mut [u64]) -> Cursor
     ensures { done result numbers.new ≡ numbers_taken line.now kind c numbers.old }
 {
@@ -172,10 +164,8 @@ pub fn take(line: &[u8], at: usize, shape: &[u8], numbers: &mut [u64], bytes: &m
         first: 0,
         size: 0,
     };
-    let mut i = 0;
-    while i < shape.len() {
-        c = one(line, shape[i], c, numbers, bytes);
-        i += 1;
+    for kind in shape {
+        c = one(line, *kind, c, numbers, bytes);
     }
     c
 }

@@ -1,10 +1,8 @@
 -- What is summed and what is left make up the whole; a pair takes at most 16 bytes, so no sum wraps.
 use native.Mathlib.Omega.{arith}
-use Prim.Native.Nat.{ℕ, ◌≤◌, ◌<◌, ◌^◌, ◌*◌, ◌+◌, ◌-◌}
-use mathlib.Core.Path.{◌≡◌}
-use mathlib.Core.List.{List}
-use lib.ListN.{length, get_or}
-use Rattle.ack_write.specs.Write.{pairs_of, Ordered}
+use Prim.Native.Nat.{◌<◌, ◌*◌, ◌+◌, ◌-◌}
+use lib.ListN.{get_or}
+use Rattle.ack_write.specs.Write.{Ordered}
 use Rattle.ack_write.proofs.Laws.{ordered_on, size_on, len_le, pairs_end}
 use Rattle.ack_write.proofs.pairs_size.Goals as goal
 use Rattle.ack_write.proofs.pairs_size.Goals.{In-loop-n}
@@ -16,7 +14,7 @@ turn : (c : In-loop-n) →
 turn c = ordered_on _ _ _ c.loop-n-test.true c.loop-n.invariant.ordered
 
 pub loop-n-init : goal.loop-n-init
-loop-n-init c = record { n_in = omega arith; low_in = omega arith; ordered = c.requires.1.1; sum = omega arith; small = omega arith }
+loop-n-init c = record { low_in = omega arith; ordered = c.requires.1.1; sum = omega arith; small = omega arith }
 
 pub overflow_sub-low : goal.overflow_sub-low
 overflow_sub-low c = omega (arith, turn (goal.at.overflow_sub-low c).In-loop-n)
@@ -56,7 +54,7 @@ loop-n-preserved c =
     let x = len_le (l.low - get_or s ((l.n - 1) * 2 + 1) 0 - 1) in
     let y = len_le (get_or s ((l.n - 1) * 2 + 1) 0 - 1 - get_or s ((l.n - 1) * 2) 0) in
     let z = size_on s l.low l.n c.loop-n-test.true in
-    record { n_in = omega arith; low_in = omega arith; ordered = t.1.1; sum = omega arith; small = omega arith }
+    record { low_in = omega arith; ordered = t.1.1; sum = omega arith; small = omega arith }
 
 pub returns : goal.returns
 returns c =

@@ -8,12 +8,8 @@ use Rattle.ack_write.proofs.pairs_size.Given as goal
 abbrev pub invariant-loop-n : goal.invariant-loop-n
 invariant-loop-n l =
     record {
-      n_in : l.n ≤ l.count;
       low_in : l.low < 2 ^ 62;
       ordered : Ordered l.list l.n l.low;
       sum : l.total + length (pairs_of l.list l.n l.low) ≡ length (pairs_of l.list l.count l.least);
       small : l.total + 16 * l.n ≤ 16 * l.count;
     }
-
-abbrev pub decreases-loop-n : goal.decreases-loop-n
-decreases-loop-n l = l.n

@@ -1,8 +1,7 @@
 -- What is written and what is left to write make up the whole.
 use native.Mathlib.Omega.{arith}
-use Prim.Native.Nat.{ℕ, ◌≤◌, ◌<◌, ◌^◌, ◌*◌, ◌+◌, ◌-◌}
-use mathlib.Core.Path.{◌≡◌, sym, ◌∙◌, ap, refl}
-use mathlib.Core.List.{List}
+use Prim.Native.Nat.{◌≤◌, ◌<◌, ◌*◌, ◌+◌, ◌-◌}
+use mathlib.Core.Path.{sym, ◌∙◌, ap, refl}
 use lib.ListN.{length, get_or}
 use Rattle.varint.specs.Varint.{len_of}
 use Rattle.ack_write.specs.Write.{put, pairs_of, Ordered}
@@ -25,7 +24,7 @@ room-on c =
     omega (arith, size_on l p.low p.n c.loop-n-test.true)
 
 pub loop-n-init : goal.loop-n-init
-loop-n-init c = record { n_in = omega arith; low_in = omega arith; ordered = c.requires.1.1.1; same = refl; room = refl; left = refl }
+loop-n-init c = record { low_in = omega arith; ordered = c.requires.1.1.1; room = refl; left = refl }
 
 pub overflow_sub-low : goal.overflow_sub-low
 overflow_sub-low c = omega (arith, turn (goal.at.overflow_sub-low c).In-loop-n)
@@ -58,10 +57,8 @@ loop-n-preserved c =
     let m = c.put_at-at.ensures.0 in
     let o = c.put_at-at-in-loop-n.ensures.0 in
     record {
-      n_in = omega arith;
       low_in = omega arith;
       ordered = t.1.1;
-      same = y ∙ x ∙ p.invariant.same;
       room = omega arith;
       left =
           put_turn p.out p.at (p.low - get_or s ((p.n - 1) * 2 + 1) 0 - 1) (get_or s ((p.n - 1) * 2 + 1) 0 - 1 - get_or s ((p.n - 1) * 2) 0) (pairs_of s (p.n - 1) (get_or s ((p.n - 1) * 2) 0)) r m c.put_at-at.ensures.1 o c.put_at-at-in-loop-n.ensures.1

@@ -27,14 +27,14 @@ passed c =
     record { again = e; formed = w; below = subst (λ (k : ℕ). well_formed a.list.now k ≡ true) (sym e) w }
 
 pub returns-then-count-eq0 : goal.returns-then-count-eq0
-returns-then-count-eq0 c = let a = c.args in none_set a.out.now a.list.now a.count a.delay c.if-count-eq0.true c.refused.ensures
+returns-then-count-eq0 c = let a = c.args in none_set a.out.now a.list.now a.count a.delay c.if-count-eq0.true
 
 pub returns-then-delay-ge-LIMIT : goal.returns-then-delay-ge-LIMIT
-returns-then-delay-ge-LIMIT c = let a = c.args in late a.out.now a.list.now a.count a.delay (omega arith) c.if-delay-ge-LIMIT.true c.refused-then-delay-ge-LIMIT.ensures
+returns-then-delay-ge-LIMIT c = let a = c.args in late a.out.now a.list.now a.count a.delay (omega arith) c.if-delay-ge-LIMIT.true
 
 pub returns-then-not-well_formed : goal.returns-then-not-well_formed
 returns-then-not-well_formed c =
-    let a = c.args in ill a.out.now a.list.now a.count a.delay (omega arith) (omega arith) c.well_formed-2.ensures (ap not c.if-not-well_formed.true) c.refused-then-not-well_formed.ensures
+    let a = c.args in ill a.out.now a.list.now a.count a.delay (omega arith) (omega arith) c.well_formed-2.ensures (ap not c.if-not-well_formed.true)
 
 pub frame_size-len-requires : goal.frame_size-len-requires
 frame_size-len-requires c = ((passed (goal.at.frame_size-len-requires c).Else-not-well_formed).below, omega arith)
@@ -45,7 +45,7 @@ returns-then-out-len c =
     let p = passed (goal.at.returns-then-out-len c).Else-not-well_formed in
     let e = ap (λ (k : ℕ). length (frame_of (reverse (read a.list.now 0 k)) a.delay)) p.again in
     let f = c.frame_size-len.ensures in
-    no_room a.out.now a.list.now a.count a.delay (omega arith) (omega arith) p.formed (omega arith) c.refused-then-out-len.ensures
+    no_room a.out.now a.list.now a.count a.delay (omega arith) (omega arith) p.formed (omega arith)
 
 pub put_frame-requires : goal.put_frame-requires
 put_frame-requires c = let f = c.frame_size-len.ensures in ((passed (goal.at.put_frame-requires c).Else-not-well_formed).below, (omega arith, omega arith))

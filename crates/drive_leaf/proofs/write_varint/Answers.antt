@@ -1,10 +1,9 @@
 -- `write_varint` meets its contract: a law for each case. Assumes nothing.
-use borrow.Author.Rules.{rules}
-use Rattle.drive_leaf.proofs.Laws.{strings}
+use Rattle.drive_leaf.proofs.Laws.{write_is, write_refused}
 use Rattle.drive_leaf.proofs.write_varint.Goals as goal
 
-pub returns-in-Len : goal.returns-in-Len
-returns-in-Len c = search (rules, strings)
+pub returns-in-Ok : goal.returns-in-Ok
+returns-in-Ok c = write_is c.args.v c.args.scratch.now c.in-Ok.ensures c.plain.ensures
 
-pub returns-in-Refused : goal.returns-in-Refused
-returns-in-Refused c = search (rules, strings)
+pub returns-in-Err : goal.returns-in-Err
+returns-in-Err c = write_refused c.args.v c.args.scratch.now c.in-Err.ensures c.from.ensures c.plain-in-Err.ensures

@@ -6,5 +6,8 @@ use Rattle.drive_sets.proofs.note.Goals as goal
 pub returns-then-code-eq-DD_NEW : goal.returns-then-code-eq-DD_NEW
 returns-then-code-eq-DD_NEW c = search (rules, basics)
 
-pub returns : goal.returns
-returns c = search (rules, basics)
+pub returns-in-Ok : goal.returns-in-Ok
+returns-in-Ok c = search (rules, basics)
+
+pub returns-in-Err : goal.returns-in-Err
+returns-in-Err c = search (rules, basics)

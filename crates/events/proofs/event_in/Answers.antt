@@ -2,8 +2,8 @@
 use Rattle.events.proofs.Laws.{event_unknown, event_known}
 use Rattle.events.proofs.event_in.Goals as goal
 
-pub returns-then-f-eq16 : goal.returns-then-f-eq16
-returns-then-f-eq16 c = event_unknown _ _ _ _ _ _ _ c.find-f.ensures.value c.if-f-eq16.true c.none.ensures
+pub returns-in_default : goal.returns-in_default
+returns-in_default c = event_unknown _ _ _ _ _ _ c.grammar-grammar.ensures c.find.ensures.value c.in_default.is
 
 pub returns : goal.returns
-returns c = event_known _ _ _ _ _ _ _ c.find-f.ensures.value c.if-f-eq16.false c.take-c.ensures c.finish.ensures
+returns c = event_known _ _ _ _ _ _ c.grammar-grammar.ensures c.find.ensures.value c.in-Some.is c.base.ensures.value c.take-c.ensures c.finish.ensures

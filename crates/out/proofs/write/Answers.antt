@@ -6,5 +6,5 @@ use Rattle.out.proofs.write.Goals as goal
 pub returns-then-write_all : goal.returns-then-write_all
 returns-then-write_all c = inl refl
 
-pub returns : goal.returns
-returns c = inr refl
+pub returns-else-write_all : goal.returns-else-write_all
+returns-else-write_all c = inr refl

@@ -1,60 +1,46 @@
 -- `expand` meets its contract: its tests are the definition's, and what it calls gives the window, the digits and A.3's choice.
-use Prim.Native.Nat.{◌≤◌}
 use native.Mathlib.Omega.{arith}
-use mathlib.Core.Path.{◌∙◌}
-use Rattle.packet_number.proofs.Laws.{readable_low, readable_high, readable_limit, window_pos, window_le, expand_refuses, expand_short, expand_past, expand_reads}
+use mathlib.Core.Path.{◌≡◌}
+use mathlib.Core.Bool.{true}
+use Rattle.big_endian.proofs.Laws.{number_got}
+use Rattle.packet_number.specs.PacketNumber.{readable}
+use Rattle.packet_number.proofs.Laws.{readable_by, readable_none, readable_long, readable_past, window_pos, window_le, number_fits, expand_refuses, expand_short, expand_past, expand_reads}
 use Rattle.packet_number.proofs.expand.Goals as goal
+use Rattle.packet_number.proofs.expand.Goals.{then-len-eq0-via-then-len-eq0, then-len-eq0-via-else-len-eq0+then-len-gt4, then-len-eq0-via-else-len-eq0+else-len-gt4+then-largest-ge-LIMIT}
 
-pub returns-then-not-len-largest : goal.returns-then-not-len-largest
-returns-then-not-len-largest c = c.unread.ensures ∙ expand_refuses _ _ _ c.if-not-len-largest.true
-
-pub returns-then-bytes-len : goal.returns-then-bytes-len
-returns-then-bytes-len c = c.unread-then-bytes-len.ensures ∙ expand_short _ _ _ c.if-not-len-largest.false c.if-bytes-len.true
-
-pub overflow_add-largest : goal.overflow_add-largest
-overflow_add-largest c =
+pub returns-then-len-eq0 : goal.returns-then-len-eq0
+returns-then-len-eq0 c =
     let a = c.args in
-    omega (arith, readable_limit a.len a.largest c.if-not-len-largest.false)
+    elim c.then-len-eq0.branch [
+      | then-len-eq0-via-then-len-eq0 w ↦ expand_refuses a.bytes.now a.len a.largest (readable_none a.len a.largest w.if-len-eq0.true)
+      | then-len-eq0-via-else-len-eq0+then-len-gt4 w ↦ expand_refuses a.bytes.now a.len a.largest (readable_long a.len a.largest w.if-len-gt4.true)
+      | then-len-eq0-via-else-len-eq0+else-len-gt4+then-largest-ge-LIMIT w ↦
+          expand_refuses a.bytes.now a.len a.largest (readable_past a.len a.largest (omega (arith, w.if-len-eq0.false)) w.if-len-gt4.false w.if-largest-ge-LIMIT.true)
+    ]
 
-pub window-requires : goal.window-requires
-window-requires c =
+pub returns-in_default : goal.returns-in_default
+returns-in_default c =
     let a = c.args in
-    let h = c.if-not-len-largest.false in
-    (readable_low a.len a.largest h, readable_high a.len a.largest h)
-
-pub digits-requires : goal.digits-requires
-digits-requires c =
-    let a = c.args in
-    (readable_high a.len a.largest c.if-not-len-largest.false, c.if-bytes-len.false)
+    let h : readable a.len a.largest ≡ true = readable_by a.len a.largest (omega arith) (omega arith) (omega arith) in
+    expand_short a.bytes.now a.len a.largest h c.in_default.ensures
 
 pub choose-number-requires : goal.choose-number-requires
 choose-number-requires c =
-    let a = c.args in
-    let h = c.if-not-len-largest.false in
-    let most : a.len ≤ 4 = readable_high a.len a.largest h in (
-      omega (arith, readable_limit a.len a.largest h),
-      (omega (arith, window_pos a.len), (omega (arith, window_le a.len most), omega arith)),
+    let a = c.args in (
+      omega arith,
+      (omega (arith, window_pos a.len), (omega (arith, window_le a.len c.if-len-gt4.false), number_fits a.bytes.now c.type_inv.bytes a.len c.in-Some.ensures c.window.ensures)),
     )
 
 pub returns-then-number-ge-LIMIT : goal.returns-then-number-ge-LIMIT
 returns-then-number-ge-LIMIT c =
     let a = c.args in
-    c.unread-then-number-ge-LIMIT.ensures
-    ∙ expand_past a.bytes.now a.len a.largest
-    c.if-not-len-largest.false
-    c.if-bytes-len.false
-    c.window.ensures
-    c.digits.ensures.0
-    c.choose-number.ensures
-    c.if-number-ge-LIMIT.true
+    let h : readable a.len a.largest ≡ true = readable_by a.len a.largest (omega arith) (omega arith) (omega arith) in
+    let g = number_got a.len a.bytes.now c.in-Some.ensures in
+    expand_past a.bytes.now a.len a.largest h g.0 c.window.ensures g.1 c.choose-number.ensures c.if-number-ge-LIMIT.true
 
 pub returns : goal.returns
 returns c =
     let a = c.args in
-    expand_reads a.bytes.now a.len a.largest
-    c.if-not-len-largest.false
-    c.if-bytes-len.false
-    c.window.ensures
-    c.digits.ensures.0
-    c.choose-number.ensures
-    c.if-number-ge-LIMIT.false
+    let h : readable a.len a.largest ≡ true = readable_by a.len a.largest (omega arith) (omega arith) (omega arith) in
+    let g = number_got a.len a.bytes.now c.in-Some.ensures in
+    expand_reads a.bytes.now a.len a.largest h g.0 c.window.ensures g.1 c.choose-number.ensures c.if-number-ge-LIMIT.false

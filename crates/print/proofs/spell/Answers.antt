@@ -1,6 +1,5 @@
 -- `print::spell` meets its contract. The digits that are left go before those that stand at the end already, and 10^i is above what is left, so that there is room. Assumes nothing.
 use mathlib.Core.Path.{◌∙◌}
-use Prim.Native.Nat.{◌-◌}
 use native.Mathlib.Omega.{arith}
 use lib.ListN.{length-set}
 use Rattle.print.proofs.Laws.{spell_start, spell_on, spell_end}

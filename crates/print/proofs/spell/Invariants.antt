@@ -1,5 +1,5 @@
 use mathlib.Core.Path.{◌≡◌}
-use Prim.Native.Nat.{◌-◌, ◌^◌, ◌≤◌, ◌<◌}
+use Prim.Native.Nat.{◌^◌, ◌≤◌, ◌<◌}
 use lib.ListN.{length, drop}
 use Rattle.print.specs.Print.{decimal_onto, decimal}
 use Rattle.print.proofs.spell.Given as goal

@@ -1,13 +1,13 @@
--- `print::text` meets its contract. Each return rewrites with the tests that led there. Assumes nothing.
+-- `print::text` meets its contract. The text has room, or it has none. Assumes nothing.
 use mathlib.Core.Path.{refl}
-use Rattle.print.proofs.Laws.{put_outside, put_room, put_ok}
+use Rattle.std.proofs.lemmas.Result.{err_from_is_err_and}
+use Rattle.print.proofs.Laws.{put_none, put_ok}
 use Rattle.print.proofs.text.Goals as goal
 
-pub returns-then-out-at : goal.returns-then-out-at
-returns-then-out-at c = put_outside _ _ _ refl c.if-out-at.true
-
-pub returns-then-out-at-2 : goal.returns-then-out-at-2
-returns-then-out-at-2 c = put_room _ _ _ refl c.if-out-at.false c.if-out-at-2.true
+pub returns-in_err-end : goal.returns-in_err-end
+returns-in_err-end c =
+    let p = err_from_is_err_and c.from_residual.result c.from_residual.ensures.1 in
+    rw (p.1, p.2, c.in_err-end.ensures.0) (put_none _ _ _ refl c.in_err-end.ensures.1)
 
 pub returns : goal.returns
-returns c = put_ok _ _ _ refl c.if-out-at.false c.if-out-at-2.false c.copy.ensures
+returns c = put_ok _ _ _ refl c.in_ok-end.ensures.0 c.in_ok-end.ensures.1 c.copy.ensures

@@ -6,7 +6,4 @@ use Rattle.range_edit.specs.Edits.{below}
 use Rattle.range_edit.proofs.passed.Given as goal
 
 abbrev pub invariant-loop-i : goal.invariant-loop-i
-invariant-loop-i l = (l.i ≤ l.count) × (l.count ≤ length l.list / 2) × (l.i + below l.s (read l.list l.i (l.count - l.i)) ≡ below l.s (read l.list 0 l.count))
-
-abbrev pub decreases-loop-i : goal.decreases-loop-i
-decreases-loop-i l = l.count - l.i
+invariant-loop-i l = (l.count ≤ length l.list / 2) × (l.i + below l.s (read l.list l.i (l.count - l.i)) ≡ below l.s (read l.list 0 l.count))

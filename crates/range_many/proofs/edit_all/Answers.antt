@@ -32,16 +32,19 @@ offset_bounds-other-j-in-loop-j c = let w = other_at (goal.at.offset_bounds-othe
 pub bounds-other-j-in-loop-j : goal.bounds-other-j-in-loop-j
 bounds-other-j-in-loop-j c = let w = other_at (goal.at.bounds-other-j-in-loop-j c).Start in omega arith
 
-pub edit-r-requires : goal.edit-r-requires
-edit-r-requires c =
-    let p = range_at_law _ _ (other_at (goal.at.edit-r-requires c).Start) c.loop-j.j c.loop-j-test.true in
+pub edit-requires : goal.edit-requires
+edit-requires c =
+    let p = range_at_law _ _ (other_at (goal.at.edit-requires c).Start) c.loop-j.j (omega arith) in
     (p.some, p.upto, c.loop-j.invariant.formed)
 
+pub unwrap-k-requires : goal.unwrap-k-requires
+unwrap-k-requires c = (go_turn _ _ _ _ _ c.requires _ _ _ c.loop-j.invariant (omega arith) c.edit.result _ c.edit.ensures).fits
+
 pub loop-j-preserved : goal.loop-j-preserved
-loop-j-preserved c = go_turn _ _ _ _ _ c.requires _ _ _ c.loop-j.invariant c.loop-j-test.true c.edit-r.result _ c.edit-r.ensures
+loop-j-preserved c = (go_turn _ _ _ _ _ c.requires _ _ _ c.loop-j.invariant (omega arith) c.edit.result _ c.edit.ensures).goes c.unwrap-k.result c.unwrap-k.ensures
 
 pub shape_of-list : goal.shape_of-list
 shape_of-list c = c.loop-j.invariant.len
 
 pub returns : goal.returns
-returns c = go_end _ _ _ _ _ c.requires _ _ _ c.loop-j.invariant c.loop-j-test.false
+returns c = go_end _ _ _ _ _ c.requires _ _ _ c.loop-j.invariant (omega arith)

@@ -1,5 +1,4 @@
 -- `fewer_all` meets its contract: the sum so far and that of the ranges still to come are the whole.
-use borrow.Author.Rules.{rules}
 use Rattle.range_many.proofs.Laws.{range_at_law, ties_on, ties_end, ties_most}
 use mathlib.Core.Path.{ap, ◌∙◌}
 use Prim.Native.Nat.{ℕ}
@@ -20,7 +19,7 @@ other_at c = formed c.args.other.now c.args.n c.requires.1
 pub loop-j-init : goal.loop-j-init
 loop-j-init c =
     let a = c.args in
-    (search rules, zero-add _ ∙ ap (λ (k : ℕ). ties a.taking (read a.list.now 0 a.count) (read a.other.now 0 k)) (sub-zero a.n))
+    (zero-add _ ∙ ap (λ (k : ℕ). ties a.way (read a.list.now 0 a.count) (read a.other.now 0 k)) (sub-zero a.n))
 
 pub overflow_mul-j : goal.overflow_mul-j
 overflow_mul-j c = let w = other_at (goal.at.overflow_mul-j c).Start in omega arith
@@ -45,7 +44,7 @@ bounds-other-j-in-loop-j c = let w = other_at (goal.at.bounds-other-j-in-loop-j 
 
 pub fewer_one-sum-requires : goal.fewer_one-sum-requires
 fewer_one-sum-requires c =
-    let p = range_at_law _ _ (other_at (goal.at.fewer_one-sum-requires c).Start) c.loop-j.j c.loop-j-test.true in
+    let p = range_at_law _ _ (other_at (goal.at.fewer_one-sum-requires c).Start) c.loop-j.j (omega arith) in
     (p.some, p.upto, c.requires.0)
 
 pub overflow_add-sum : goal.overflow_add-sum
@@ -53,14 +52,14 @@ overflow_add-sum c =
     let a = c.args in
     let w = formed-at (goal.at.overflow_add-sum c).Start in
     let v = other_at (goal.at.overflow_add-sum c).Start in
-    omega (arith, c.loop-j.invariant.1, c.fewer_one-sum.ensures, ties_on a.taking (read a.list.now 0 a.count) a.other.now c.loop-j.j a.n c.loop-j-test.true, ties_most a.taking a.list.now a.count a.other.now a.n w v)
+    omega (arith, c.loop-j.invariant, c.fewer_one-sum.ensures, ties_on a.way (read a.list.now 0 a.count) a.other.now c.loop-j.j a.n (omega arith), ties_most a.way a.list.now a.count a.other.now a.n w v)
 
 pub loop-j-preserved : goal.loop-j-preserved
 loop-j-preserved c =
     let a = c.args in
-    (search rules, omega (arith, c.loop-j.invariant.1, c.fewer_one-sum.ensures, ties_on a.taking (read a.list.now 0 a.count) a.other.now c.loop-j.j a.n c.loop-j-test.true))
+    (omega (arith, c.loop-j.invariant, c.fewer_one-sum.ensures, ties_on a.way (read a.list.now 0 a.count) a.other.now c.loop-j.j a.n (omega arith)))
 
 pub returns : goal.returns
 returns c =
     let a = c.args in
-    omega (arith, c.loop-j.invariant.1, ties_end a.taking (read a.list.now 0 a.count) a.other.now c.loop-j.j a.n c.loop-j-test.false)
+    omega (arith, c.loop-j.invariant, ties_end a.way (read a.list.now 0 a.count) a.other.now c.loop-j.j a.n (omega arith))

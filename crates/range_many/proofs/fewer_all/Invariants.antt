@@ -1,11 +1,8 @@
 use mathlib.Core.Path.{◌≡◌}
-use Prim.Native.Nat.{◌+◌, ◌-◌, ◌≤◌}
+use Prim.Native.Nat.{◌+◌, ◌-◌}
 use Rattle.range_list.specs.Ranges.{read}
 use Rattle.range_many.specs.Many.{ties}
 use Rattle.range_many.proofs.fewer_all.Given as goal
 
 abbrev pub invariant-loop-j : goal.invariant-loop-j
-invariant-loop-j l = (l.j ≤ l.n) × (l.sum + ties l.taking (read l.list 0 l.count) (read l.other l.j (l.n - l.j)) ≡ ties l.taking (read l.list 0 l.count) (read l.other 0 l.n))
-
-abbrev pub decreases-loop-j : goal.decreases-loop-j
-decreases-loop-j l = l.n - l.j
+invariant-loop-j l = (l.sum + ties l.way (read l.list 0 l.count) (read l.other l.j (l.n - l.j)) ≡ ties l.way (read l.list 0 l.count) (read l.other 0 l.n))

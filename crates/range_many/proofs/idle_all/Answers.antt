@@ -1,5 +1,4 @@
 -- `idle_all` meets its contract: the ranges still to test are idle exactly where all are.
-use borrow.Author.Rules.{rules}
 use Rattle.range_many.proofs.Laws.{range_at_law, idle_stop, idle_on, idle_end}
 use mathlib.Core.Path.{sym, ap, ◌∙◌}
 use Prim.Native.Nat.{ℕ}
@@ -20,7 +19,7 @@ other_at c = formed c.args.other.now c.args.n c.requires.1
 pub loop-j-init : goal.loop-j-init
 loop-j-init c =
     let a = c.args in
-    (search rules, ap (λ (k : ℕ). idle_all a.taking (read a.list.now 0 a.count) (read a.other.now 0 k)) (sub-zero a.n))
+    (ap (λ (k : ℕ). idle_all a.way (read a.list.now 0 a.count) (read a.other.now 0 k)) (sub-zero a.n))
 
 pub overflow_mul-j : goal.overflow_mul-j
 overflow_mul-j c = let w = other_at (goal.at.overflow_mul-j c).Start in omega arith
@@ -45,20 +44,20 @@ bounds-other-j-in-loop-j c = let w = other_at (goal.at.bounds-other-j-in-loop-j 
 
 pub idle_one-requires : goal.idle_one-requires
 idle_one-requires c =
-    let p = range_at_law _ _ (other_at (goal.at.idle_one-requires c).Start) c.loop-j.j c.loop-j-test.true in
+    let p = range_at_law _ _ (other_at (goal.at.idle_one-requires c).Start) c.loop-j.j (omega arith) in
     (p.some, p.upto, c.requires.0)
 
 pub returns-then-not-idle_one : goal.returns-then-not-idle_one
 returns-then-not-idle_one c =
     let a = c.args in
-    idle_stop a.taking (read a.list.now 0 a.count) a.other.now c.loop-j.j a.n c.loop-j-test.true (sym c.if-not-idle_one.true ∙ c.idle_one.ensures) ∙ c.loop-j.invariant.1
+    idle_stop a.way (read a.list.now 0 a.count) a.other.now c.loop-j.j a.n (omega arith) (sym c.if-not-idle_one.true ∙ c.idle_one.ensures) ∙ c.loop-j.invariant
 
 pub loop-j-preserved : goal.loop-j-preserved
 loop-j-preserved c =
     let a = c.args in
-    (search rules, idle_on a.taking (read a.list.now 0 a.count) a.other.now c.loop-j.j a.n c.loop-j-test.true (sym c.if-not-idle_one.false ∙ c.idle_one.ensures) ∙ c.loop-j.invariant.1)
+    (idle_on a.way (read a.list.now 0 a.count) a.other.now c.loop-j.j a.n (omega arith) (sym c.if-not-idle_one.false ∙ c.idle_one.ensures) ∙ c.loop-j.invariant)
 
 pub returns : goal.returns
 returns c =
     let a = c.args in
-    idle_end a.taking (read a.list.now 0 a.count) a.other.now c.loop-j.j a.n c.loop-j-test.false ∙ c.loop-j.invariant.1
+    idle_end a.way (read a.list.now 0 a.count) a.other.now c.loop-j.j a.n (omega arith) ∙ c.loop-j.invariant

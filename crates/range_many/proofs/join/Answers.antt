@@ -24,12 +24,12 @@ pub join_one-g-requires : goal.join_one-g-requires
 join_one-g-requires c =
     let p = c.loop-i.invariant in
     let w = formed-at (goal.at.join_one-g-requires c).Start in
-    let q = gap_at _ _ w c.loop-i.i (omega arith) c.loop-i-test.true in
+    let q = gap_at _ _ w c.loop-i.i (omega arith) (omega arith) in
     (p.low, omega arith, omega (arith, q, join_lo _ _ _ _ _ _ _ p, join_hi _ _ _ _ _ _ _ p), c.requires.1)
 
 pub loop-i-preserved : goal.loop-i-preserved
 loop-i-preserved c =
-    join_turn _ _ _ _ _ _ _ c.loop-i.invariant c.loop-i-test.true (formed-at (goal.at.loop-i-preserved c).Start).room c.join_one-g.result _ c.join_one-g.ensures
+    join_turn _ _ _ _ _ _ _ c.loop-i.invariant (omega arith) (formed-at (goal.at.loop-i-preserved c).Start).room c.join_one-g.result _ c.join_one-g.ensures
 
 pub overflow_mul-hi : goal.overflow_mul-hi
 overflow_mul-hi c = let w = formed-at (goal.at.overflow_mul-hi c).Start in omega arith
@@ -68,4 +68,4 @@ pub shape_of-list : goal.shape_of-list
 shape_of-list c = let p = c.loop-i.invariant in simp length-set p.len
 
 pub returns : goal.returns
-returns c = join_end _ _ _ _ _ _ _ c.loop-i.invariant c.loop-i-test.false (formed-at (goal.at.returns c).Start).room _ refl
+returns c = join_end _ _ _ _ _ _ _ c.loop-i.invariant (omega arith) (formed-at (goal.at.returns c).Start).room _ refl

@@ -1,10 +1,6 @@
 use Rattle.range_many.proofs.Laws.{Joining}
-use Prim.Native.Nat.{◌-◌}
 use Rattle.range_list.specs.Ranges.{read}
 use Rattle.range_many.proofs.join.Given as goal
 
 abbrev pub invariant-loop-i : goal.invariant-loop-i
 invariant-loop-i l = Joining l.fn.list l.count (read l.other 0 l.n) l.list l.k l.lo l.i
-
-abbrev pub decreases-loop-i : goal.decreases-loop-i
-decreases-loop-i l = l.count - l.i

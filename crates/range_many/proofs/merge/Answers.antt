@@ -16,7 +16,7 @@ other_at : (c : Start) → Formed c.args.other.now c.args.n
 other_at c = formed c.args.other.now c.args.n c.requires.1
 
 busy : (c : Else-idle_all)
-    → false ≡ idle_all c.args.taking (read c.args.list.now 0 c.args.count) (read c.args.other.now 0 c.args.n)
+    → false ≡ idle_all c.args.way (read c.args.list.now 0 c.args.count) (read c.args.other.now 0 c.args.n)
 busy c = sym c.if-idle_all.false ∙ c.idle_all.ensures
 
 pub returns-then-idle_all : goal.returns-then-idle_all
@@ -29,7 +29,7 @@ overflow_add-size c = let w = formed-at (goal.at.overflow_add-size c).Start in l
 pub overflow_sub-size : goal.overflow_sub-size
 overflow_sub-size c =
     let a = c.args in
-    omega (arith, c.fewer_all.ensures, ties_most a.taking a.list.now a.count a.other.now a.n (formed-at (goal.at.overflow_sub-size c).Start) (other_at (goal.at.overflow_sub-size c).Start))
+    omega (arith, c.fewer_all.ensures, ties_most a.way a.list.now a.count a.other.now a.n (formed-at (goal.at.overflow_sub-size c).Start) (other_at (goal.at.overflow_sub-size c).Start))
 
 pub returns-then-list-size : goal.returns-then-list-size
 returns-then-list-size c =

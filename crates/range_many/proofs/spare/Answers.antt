@@ -16,15 +16,15 @@ pub spare_one-k-requires : goal.spare_one-k-requires
 spare_one-k-requires c =
     let p = c.loop-i.invariant in
     let w = formed-at (goal.at.spare_one-k-requires c).Start in
-    let q = range_at_law _ _ w c.loop-i.i c.loop-i-test.true in
+    let q = range_at_law _ _ w c.loop-i.i (omega arith) in
     (p.low, omega arith, omega (arith, q.some, spare_lo _ _ _ _ _ _ p, spare_hi _ _ _ _ _ _ p), c.requires.1)
 
 pub loop-i-preserved : goal.loop-i-preserved
 loop-i-preserved c =
-    spare_turn _ _ _ _ _ _ c.loop-i.invariant c.loop-i-test.true (formed-at (goal.at.loop-i-preserved c).Start).room _ _ c.spare_one-k.ensures.0 c.spare_one-k.ensures.1
+    spare_turn _ _ _ _ _ _ c.loop-i.invariant (omega arith) (formed-at (goal.at.loop-i-preserved c).Start).room _ _ c.spare_one-k.ensures.0 c.spare_one-k.ensures.1
 
 pub shape_of-list : goal.shape_of-list
 shape_of-list c = c.loop-i.invariant.len
 
 pub returns : goal.returns
-returns c = spare_end _ _ _ _ _ _ c.loop-i.invariant c.loop-i-test.false
+returns c = spare_end _ _ _ _ _ _ c.loop-i.invariant (omega arith)

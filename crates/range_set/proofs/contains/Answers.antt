@@ -21,9 +21,9 @@ returns-then-not-well_formed c = held_bad _ _ _ c.if-x-ge-LIMIT.false (sym c.wel
 pub passed-at-requires : goal.passed-at-requires
 passed-at-requires c = (formed-at (goal.at.passed-at-requires c).Else-not-well_formed).formed
 
-pub covered-held-requires : goal.covered-held-requires
-covered-held-requires c = ((passed-at (goal.at.covered-held-requires c).After-passed-at).low, (formed-at (goal.at.covered-held-requires c).Else-not-well_formed).room)
+pub covered-requires : goal.covered-requires
+covered-requires c = ((passed-at (goal.at.covered-requires c).After-passed-at).low, (formed-at (goal.at.covered-requires c).Else-not-well_formed).room)
 
 pub returns : goal.returns
 returns c =
-    held_is _ _ _ c.if-x-ge-LIMIT.false (formed-at (goal.at.returns c).Else-not-well_formed) _ (passed-at (goal.at.returns c).After-passed-at) _ c.covered-held.ensures
+    held_is _ _ _ c.if-x-ge-LIMIT.false (formed-at (goal.at.returns c).Else-not-well_formed) _ (passed-at (goal.at.returns c).After-passed-at) _ c.covered.ensures

@@ -2,6 +2,8 @@
 use Rattle.range_set.proofs.AtLimit.{Taken, is_taken, cap_bad, cap_plain, cap_lowest, cap_drop}
 use mathlib.Core.Path.{sym, ◌∙◌}
 use native.Mathlib.Omega.{arith}
+use Rattle.std.specs.Prelude.{Ok, Err}
+use Rattle.std.proofs.lemmas.Result.{err_from_is_err_and}
 use Rattle.range_list.proofs.Sound.{Formed, formed}
 use Rattle.range_edit.proofs.Insert.{Passed, passed}
 use Rattle.range_set.proofs.insert_one_capped.Goals as goal
@@ -26,12 +28,18 @@ crowded-requires c = let v = taken_at (goal.at.crowded-requires c).Else-not-take
 pub overflow_add-x : goal.overflow_add-x
 overflow_add-x c = let v = taken_at (goal.at.overflow_add-x c).Else-not-takes in omega arith
 
-pub put-r-requires : goal.put-r-requires
-put-r-requires c = let v = taken_at (goal.at.put-r-requires c).Else-not-takes in (omega arith, omega arith, v.formed)
+pub put-requires : goal.put-requires
+put-requires c = let v = taken_at (goal.at.put-requires c).Else-not-takes in (omega arith, omega arith, v.formed)
 
 pub returns-then-not-crowded : goal.returns-then-not-crowded
 returns-then-not-crowded c =
-    cap_plain _ _ _ _ (taken_at (goal.at.returns-then-not-crowded c).Else-not-takes).taken (sym c.crowded.ensures ∙ c.if-not-crowded.true) c.put-r.result _ c.put-r.ensures
+    cap_plain _ _ _ _ (taken_at (goal.at.returns-then-not-crowded c).Else-not-takes).taken (sym c.crowded.ensures ∙ c.if-not-crowded.true) (Ok c.in_ok-r.r) _ c.in_ok-r.ensures
+
+pub returns-in_err-r : goal.returns-in_err-r
+returns-in_err-r c =
+    let p = err_from_is_err_and c.from_residual.result c.from_residual.ensures.1 in
+    rw (p.1, p.2)
+    (cap_plain _ _ _ _ (taken_at (goal.at.returns-in_err-r c).Else-not-takes).taken (sym c.crowded.ensures ∙ c.if-not-crowded.true) (Err c.in_err-r.field-0.0) _ c.in_err-r.ensures)
 
 pub passed-at-requires : goal.passed-at-requires
 passed-at-requires c = (taken_at (goal.at.passed-at-requires c).Else-not-takes).formed

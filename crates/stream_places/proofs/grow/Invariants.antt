@@ -4,8 +4,5 @@ use Prim.Native.Nat.{◌-◌, ◌+◌, ◌*◌}
 use mathlib.Core.Path.{◌≡◌}
 use Rattle.stream_places.proofs.grow.Given as goal
 
-abbrev pub invariant-loop-left : goal.invariant-loop-left
-invariant-loop-left l = (l.n + l.left ≡ l.count + l.k) × (l.at + 4 * l.left ≡ l.id + 4 * l.k) × (length l.table ≡ length l.fn.table) × (grown_by l.w l.table l.n l.at l.left ≡ grown_by l.w l.fn.table l.count l.id l.k)
-
-abbrev pub decreases-loop-left : goal.decreases-loop-left
-decreases-loop-left l = l.left
+abbrev pub invariant-loop-i : goal.invariant-loop-i
+invariant-loop-i l = (length l.table ≡ length l.fn.table) × (grown_by l.w l.table (l.count + l.i) (l.id + 4 * l.i) (l.k - l.i) ≡ grown_by l.w l.fn.table l.count l.id l.k)

@@ -1,32 +1,16 @@
 -- One law a return.
--- src/lib.rt:228:9
-use Rattle.stream_places.proofs.Rejects.{rejects}
+use Rattle.stream_places.proofs.Rejects.{reject_not, reject_done, reject_fits, reject_few}
 use borrow.Author.Rules.{rules}
 use Rattle.stream_places.proofs.rejected.Goals as goal
 
-pub strip-t-requires : goal.strip-t-requires
-strip-t-requires c = search (rules, rejects)
-
-pub unmoved-requires : goal.unmoved-requires
-unmoved-requires c = search (rules, rejects)
-
-pub shape_of-table-then-t-ne0 : goal.shape_of-table-then-t-ne0
-shape_of-table-then-t-ne0 c = search (rules, rejects)
-
-pub returns-then-t-ne0 : goal.returns-then-t-ne0
-returns-then-t-ne0 c = search (rules, rejects)
+pub returns-in_err-t : goal.returns-in_err-t
+returns-in_err-t c = search (rules, reject_not c.args.c c.args.table.now c.args.count c.strip.ensures c.in_err-t.was)
 
 pub forget-d-requires : goal.forget-d-requires
-forget-d-requires c = search (rules, rejects)
+forget-d-requires c = reject_fits _ _ _ c.strip.ensures c.in_ok-t.was
 
 pub overflow_sub-gone : goal.overflow_sub-gone
-overflow_sub-gone c = search (rules, rejects)
-
-pub moved-requires : goal.moved-requires
-moved-requires c = search (rules, rejects)
-
-pub shape_of-table : goal.shape_of-table
-shape_of-table c = search (rules, rejects)
+overflow_sub-gone c = reject_few _ _ _ c.strip.ensures c.in_ok-t.was
 
 pub returns : goal.returns
-returns c = search (rules, rejects)
+returns c = reject_done _ _ _ c.strip.ensures c.in_ok-t.was c.forget-d.ensures c.moved.ensures

@@ -4,7 +4,4 @@ use mathlib.Core.Path.{◌≡◌}
 use Rattle.stream_table.proofs.check.Given as goal
 
 abbrev pub invariant-loop-i : goal.invariant-loop-i
-invariant-loop-i l = (l.i ≤ l.count) × (l.b ≤ l.i) × (l.u ≤ l.i) × (good_from l.c (recs_from l.i (l.count - l.i) l.table) l.low l.left l.b l.u ≡ good_from l.c (records l.count l.table) 0 l.total 0 0)
-
-abbrev pub decreases-loop-i : goal.decreases-loop-i
-decreases-loop-i l = l.count - l.i
+invariant-loop-i l = (l.b ≤ l.i) × (l.u ≤ l.i) × (good_from l.c (recs_from l.i (l.count - l.i) l.table) l.low l.left l.b l.u ≡ good_from l.c (records l.count l.table) 0 l.total 0 0)

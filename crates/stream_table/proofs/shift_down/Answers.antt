@@ -1,16 +1,15 @@
 -- The invariant: moving down those left, from here on, gives the words that moving down all gives.
 use Rattle.stream_table.proofs.Shape.{remove_start, remove_turn, remove_done, length_after}
-use borrow.Author.Rules.{rules}
 use native.Mathlib.Omega.{arith}
 use mathlib.Core.Path.{refl, ◌∙◌}
 use Rattle.stream_table.proofs.shift_down.Goals as goal
 
 pub loop-i-init : goal.loop-i-init
-loop-i-init c = (search rules, refl, remove_start _ _ _)
+loop-i-init c = (omega arith, refl, remove_start _ _ _)
 
 pub loop-i-preserved : goal.loop-i-preserved
 loop-i-preserved c =
-    (omega (arith, c.loop-i-test.true), length_after c.loop-i.table c.loop-i.i c.load-t.result c.store.ensures ∙ c.loop-i.invariant.1, remove_turn c.loop-i.table _ c.loop-i.i c.loop-i.invariant.2 c.loop-i-test.true c.load-t.ensures c.store.ensures)
+    (omega arith, length_after c.loop-i.table c.loop-i.i c.load-t.result c.store.ensures ∙ c.loop-i.invariant.1, remove_turn c.loop-i.table _ c.loop-i.i c.loop-i.invariant.2 (omega arith) c.load-t.ensures c.store.ensures)
 
 pub returns : goal.returns
-returns c = remove_done c.loop-i.table _ c.loop-i.i c.loop-i.invariant.2 c.loop-i-test.false
+returns c = remove_done c.loop-i.table _ c.loop-i.i c.loop-i.invariant.2 (omega arith)

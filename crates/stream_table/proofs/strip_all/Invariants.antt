@@ -5,7 +5,4 @@ use mathlib.Core.Path.{◌≡◌}
 use Rattle.stream_table.proofs.strip_all.Given as goal
 
 abbrev pub invariant-loop-i : goal.invariant-loop-i
-invariant-loop-i l = (l.i ≤ l.count) × (l.w ≤ l.i) × (length l.table ≡ length l.fn.table) × (l.total + sum_ends (recs_from l.i (l.count - l.i) l.table) ≤ sum_ends (records l.count l.fn.table)) × (strip_from l.side l.table l.w l.total (recs_from l.i (l.count - l.i) l.table) ≡ stripped l.side l.fn.table l.count)
-
-abbrev pub decreases-loop-i : goal.decreases-loop-i
-decreases-loop-i l = l.count - l.i
+invariant-loop-i l = (l.w ≤ l.i) × (length l.table ≡ length l.fn.table) × (l.total + sum_ends (recs_from l.i (l.count - l.i) l.table) ≤ sum_ends (records l.count l.fn.table)) × (strip_from l.side l.table l.w l.total (recs_from l.i (l.count - l.i) l.table) ≡ stripped l.side l.fn.table l.count)

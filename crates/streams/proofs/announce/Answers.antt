@@ -1,47 +1,14 @@
--- One law a return, by what `enter` found; a step at a place fits the books because it is fair.
--- src/lib.rt:170:9
-use Rattle.streams.proofs.Laws.{announces, announce_fits}
-use borrow.Author.Rules.{rules}
+-- The event is fair, and is the one of the definition.
+use Rattle.std.proofs.Common.{rules}
+use Rattle.stream_record.specs.Record.{announced}
+use Rattle.streams.specs.Calls.{room, announce_after}
+use Rattle.streams.proofs.Fair.{announce_fair}
+use Rattle.streams.proofs.Laws.{fair_of}
 use Rattle.streams.proofs.announce.Goals as goal
 
-pub enter-x-requires : goal.enter-x-requires
-enter-x-requires c = search (rules, announces)
+pub on_stream-requires-clause-fair : goal.on_stream-requires-clause-fair
+on_stream-requires-clause-fair c = λ s r e. fair_of s (room c.args.c) r (announced s c.args.c.swindow) (search rules) (announce_fair s c.args.c.swindow (room c.args.c))
 
-pub enum_known-x : goal.enum_known-x
-enum_known-x c = search (rules, announces)
-
-pub refuse-requires : goal.refuse-requires
-refuse-requires c = search (rules, announces)
-
-pub enum_told-1 : goal.enum_told-1
-enum_told-1 c = search (rules, announces)
-
-pub refuse-requires-in-Absent : goal.refuse-requires-in-Absent
-refuse-requires-in-Absent c = search (rules, announces)
-
-pub enum_known-x-in-Place-1 : goal.enum_known-x-in-Place-1
-enum_known-x-in-Place-1 c = search (rules, announces)
-
-pub announce-p-requires : goal.announce-p-requires
-announce-p-requires c = search (rules, announces)
-
-pub commit-requires : goal.commit-requires
-commit-requires c = announce_fits _ _ _ _ c.enter-x.ensures c.in-Place.is c.announce-p.ensures
-
-pub shape_of-table-in-No : goal.shape_of-table-in-No
-shape_of-table-in-No c = search (rules, announces)
-
-pub returns-in-No : goal.returns-in-No
-returns-in-No c = search (rules, announces)
-
-pub shape_of-table-in-Absent : goal.shape_of-table-in-Absent
-shape_of-table-in-Absent c = search (rules, announces)
-
-pub returns-in-Absent : goal.returns-in-Absent
-returns-in-Absent c = search (rules, announces)
-
-pub shape_of-table-in-Place : goal.shape_of-table-in-Place
-shape_of-table-in-Place c = search (rules, announces)
-
-pub returns-in-Place : goal.returns-in-Place
-returns-in-Place c = search (rules, announces)
+pub returns : goal.returns
+unfolding announce_after
+returns c = c.on_stream.ensures (λ s. announced s c.args.c.swindow) (λ s r e. search rules)

@@ -1,26 +1,6 @@
--- One law a return.
--- src/lib.rt:66:9
-use Rattle.streams.proofs.Laws.{commits}
-use borrow.Author.Rules.{rules}
+-- What `commit` leaves is the step in the table and in the books.
+use Rattle.streams.proofs.Laws.{commit_done}
 use Rattle.streams.proofs.commit.Goals as goal
 
-pub refuse-requires : goal.refuse-requires
-refuse-requires c = search (rules, commits)
-
-pub returns-then-not-p : goal.returns-then-not-p
-returns-then-not-p c = search (rules, commits)
-
-pub book-d-requires : goal.book-d-requires
-book-d-requires c = search (rules, commits)
-
-pub touch-e-requires : goal.touch-e-requires
-touch-e-requires c = search (rules, commits)
-
-pub put-requires : goal.put-requires
-put-requires c = search (rules, commits)
-
-pub shape_of-table : goal.shape_of-table
-shape_of-table c = search (rules, commits)
-
 pub returns : goal.returns
-returns c = search (rules, commits)
+returns c = commit_done _ _ _ _ _ _ c.requires.0 c.requires.1 c.put.ensures c.book-d.ensures c.touch-e.ensures

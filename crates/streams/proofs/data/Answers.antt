@@ -1,59 +1,16 @@
--- One law a return, by what `enter` found; a step at a place fits the books because it is fair.
--- src/lib.rt:87:9
-use Rattle.streams.proofs.Laws.{datas, data_fits}
-use borrow.Author.Rules.{rules}
+-- The event is fair, and is the one of the definition.
+use Rattle.std.proofs.Common.{rules, ◌+◌}
+use Rattle.stream_record.specs.Record.{took}
+use Rattle.streams.specs.Calls.{room, data_after}
+use Rattle.streams.proofs.Fair.{took_fair}
+use Rattle.streams.proofs.Laws.{fair_of}
 use Rattle.streams.proofs.data.Goals as goal
 
-pub refuse-requires : goal.refuse-requires
-refuse-requires c = search (rules, datas)
+pub on_stream-requires-clause-fair : goal.on_stream-requires-clause-fair
+on_stream-requires-clause-fair c = λ s r e. fair_of s (room c.args.c) r (took s (c.args.offset + c.args.len) c.args.fin (room c.args.c)) (search rules) (took_fair s (c.args.offset + c.args.len) c.args.fin (room c.args.c))
 
-pub returns-then-offset-len : goal.returns-then-offset-len
-returns-then-offset-len c = search (rules, datas)
-
-pub enter-x-requires : goal.enter-x-requires
-enter-x-requires c = search (rules, datas)
-
-pub enum_known-x : goal.enum_known-x
-enum_known-x c = search (rules, datas)
-
-pub refuse-requires-in-No : goal.refuse-requires-in-No
-refuse-requires-in-No c = search (rules, datas)
-
-pub enum_told-1 : goal.enum_told-1
-enum_told-1 c = search (rules, datas)
-
-pub refuse-requires-in-Absent : goal.refuse-requires-in-Absent
-refuse-requires-in-Absent c = search (rules, datas)
-
-pub enum_known-x-in-Place-1 : goal.enum_known-x-in-Place-1
-enum_known-x-in-Place-1 c = search (rules, datas)
-
-pub overflow_add-offset : goal.overflow_add-offset
-overflow_add-offset c = search (rules, datas)
-
-pub overflow_sub-c : goal.overflow_sub-c
-overflow_sub-c c = search (rules, datas)
-
-pub data-p-requires : goal.data-p-requires
-data-p-requires c = search (rules, datas)
-
-pub commit-requires : goal.commit-requires
-commit-requires c = data_fits _ _ _ _ _ _ _ c.enter-x.ensures c.in-Place.is c.before.data-p.ensures
-
-pub shape_of-table-in-No : goal.shape_of-table-in-No
-shape_of-table-in-No c = search (rules, datas)
-
-pub returns-in-No : goal.returns-in-No
-returns-in-No c = search (rules, datas)
-
-pub shape_of-table-in-Absent : goal.shape_of-table-in-Absent
-shape_of-table-in-Absent c = search (rules, datas)
-
-pub returns-in-Absent : goal.returns-in-Absent
-returns-in-Absent c = search (rules, datas)
-
-pub shape_of-table-in-Place : goal.shape_of-table-in-Place
-shape_of-table-in-Place c = search (rules, datas)
-
-pub returns-in-Place : goal.returns-in-Place
-returns-in-Place c = search (rules, datas)
+pub returns : goal.returns
+unfolding data_after
+returns c =
+    let y = c.on_stream.ensures (λ s. took s (c.args.offset + c.args.len) c.args.fin (room c.args.c)) (λ s r e. search rules) in
+    search rules

@@ -1,54 +1,16 @@
--- One law a return, by what `enter` found; a step at a place fits the books because it is fair.
--- src/lib.rt:138:9
-use Rattle.streams.proofs.Laws.{reads, read_fits}
-use borrow.Author.Rules.{rules}
-use Rattle.streams.proofs.read.Reads as reads
+-- The event is fair, and is the one of the definition.
+use Rattle.std.proofs.Common.{rules}
+use Rattle.stream_record.specs.Record.{read_on}
+use Rattle.streams.specs.Calls.{room, read_after}
+use Rattle.streams.proofs.Fair.{read_fair}
+use Rattle.streams.proofs.Laws.{fair_of}
 use Rattle.streams.proofs.read.Goals as goal
 
-pub refuse-requires : goal.refuse-requires
-refuse-requires c = search (rules, reads)
+pub on_stream-requires-clause-fair : goal.on_stream-requires-clause-fair
+on_stream-requires-clause-fair c = λ s r e. fair_of s (room c.args.c) r (read_on s c.args.n) (search rules) (read_fair s c.args.n (room c.args.c))
 
-pub returns-then-n-ge-TOP : goal.returns-then-n-ge-TOP
-returns-then-n-ge-TOP c = search (rules, reads)
-
-pub enter-x-requires : goal.enter-x-requires
-enter-x-requires c = search (rules, reads)
-
-pub enum_known-x : goal.enum_known-x
-enum_known-x c = search (rules, reads)
-
-pub refuse-requires-in-No : goal.refuse-requires-in-No
-refuse-requires-in-No c = search (rules, reads)
-
-pub enum_told-1 : goal.enum_told-1
-enum_told-1 c = search (rules, reads)
-
-pub refuse-requires-in-Absent : goal.refuse-requires-in-Absent
-refuse-requires-in-Absent c = search (rules, reads)
-
-pub enum_known-x-in-Place-1 : goal.enum_known-x-in-Place-1
-enum_known-x-in-Place-1 c = search (rules, reads)
-
-pub read-p-requires : goal.read-p-requires
-read-p-requires c = search (rules, reads)
-
-pub commit-requires : goal.commit-requires
-commit-requires c = read_fits _ _ _ _ _ c.enter-x.ensures c.in-Place.is c.read-p.ensures
-
-pub shape_of-table-in-No : goal.shape_of-table-in-No
-shape_of-table-in-No c = search (rules, reads)
-
-pub returns-in-No : goal.returns-in-No
-returns-in-No c = search (rules, reads)
-
-pub shape_of-table-in-Absent : goal.shape_of-table-in-Absent
-shape_of-table-in-Absent c = search (rules, reads)
-
-pub returns-in-Absent : goal.returns-in-Absent
-returns-in-Absent c = search (rules, reads)
-
-pub shape_of-table-in-Place : goal.shape_of-table-in-Place
-shape_of-table-in-Place c = search (rules, reads)
-
-pub returns-in-Place : goal.returns-in-Place
-returns-in-Place c = search (rules, reads)
+pub returns : goal.returns
+unfolding read_after
+returns c =
+    let y = c.on_stream.ensures (λ s. read_on s c.args.n) (λ s r e. search rules) in
+    search rules

@@ -1,47 +1,14 @@
--- One law a return, by what `enter` found; a step at a place fits the books because it is fair.
--- src/lib.rt:155:9
-use Rattle.streams.proofs.Laws.{seens, seen_fits}
-use borrow.Author.Rules.{rules}
+-- The event is fair, and is the one of the definition.
+use Rattle.std.proofs.Common.{rules}
+use Rattle.stream_record.specs.Record.{seen_by}
+use Rattle.streams.specs.Calls.{room, seen_after}
+use Rattle.streams.proofs.Fair.{seen_fair}
+use Rattle.streams.proofs.Laws.{fair_of}
 use Rattle.streams.proofs.seen.Goals as goal
 
-pub enter-x-requires : goal.enter-x-requires
-enter-x-requires c = search (rules, seens)
+pub on_stream-requires-clause-fair : goal.on_stream-requires-clause-fair
+on_stream-requires-clause-fair c = λ s r e. fair_of s (room c.args.c) r (seen_by s) (search rules) (seen_fair s (room c.args.c))
 
-pub enum_known-x : goal.enum_known-x
-enum_known-x c = search (rules, seens)
-
-pub refuse-requires : goal.refuse-requires
-refuse-requires c = search (rules, seens)
-
-pub enum_told-1 : goal.enum_told-1
-enum_told-1 c = search (rules, seens)
-
-pub refuse-requires-in-Absent : goal.refuse-requires-in-Absent
-refuse-requires-in-Absent c = search (rules, seens)
-
-pub enum_known-x-in-Place-1 : goal.enum_known-x-in-Place-1
-enum_known-x-in-Place-1 c = search (rules, seens)
-
-pub seen-p-requires : goal.seen-p-requires
-seen-p-requires c = search (rules, seens)
-
-pub commit-requires : goal.commit-requires
-commit-requires c = seen_fits _ _ _ _ c.enter-x.ensures c.in-Place.is c.seen-p.ensures
-
-pub shape_of-table-in-No : goal.shape_of-table-in-No
-shape_of-table-in-No c = search (rules, seens)
-
-pub returns-in-No : goal.returns-in-No
-returns-in-No c = search (rules, seens)
-
-pub shape_of-table-in-Absent : goal.shape_of-table-in-Absent
-shape_of-table-in-Absent c = search (rules, seens)
-
-pub returns-in-Absent : goal.returns-in-Absent
-returns-in-Absent c = search (rules, seens)
-
-pub shape_of-table-in-Place : goal.shape_of-table-in-Place
-shape_of-table-in-Place c = search (rules, seens)
-
-pub returns-in-Place : goal.returns-in-Place
-returns-in-Place c = search (rules, seens)
+pub returns : goal.returns
+unfolding seen_after
+returns c = c.on_stream.ensures seen_by (λ s r e. search rules)

@@ -1,47 +1,14 @@
--- One law a return, by what `enter` found; a step at a place fits the books because it is fair.
--- src/lib.rt:185:9
-use Rattle.streams.proofs.Laws.{sents, sent_fits}
-use borrow.Author.Rules.{rules}
+-- The event is fair, and is the one of the definition.
+use Rattle.std.proofs.Common.{rules}
+use Rattle.stream_record.specs.Record.{sent_done}
+use Rattle.streams.specs.Calls.{room, sent_after}
+use Rattle.streams.proofs.Fair.{sent_fair}
+use Rattle.streams.proofs.Laws.{fair_of}
 use Rattle.streams.proofs.sent.Goals as goal
 
-pub enter-x-requires : goal.enter-x-requires
-enter-x-requires c = search (rules, sents)
+pub on_stream-requires-clause-fair : goal.on_stream-requires-clause-fair
+on_stream-requires-clause-fair c = λ s r e. fair_of s (room c.args.c) r (sent_done s) (search rules) (sent_fair s (room c.args.c))
 
-pub enum_known-x : goal.enum_known-x
-enum_known-x c = search (rules, sents)
-
-pub refuse-requires : goal.refuse-requires
-refuse-requires c = search (rules, sents)
-
-pub enum_told-1 : goal.enum_told-1
-enum_told-1 c = search (rules, sents)
-
-pub refuse-requires-in-Absent : goal.refuse-requires-in-Absent
-refuse-requires-in-Absent c = search (rules, sents)
-
-pub enum_known-x-in-Place-1 : goal.enum_known-x-in-Place-1
-enum_known-x-in-Place-1 c = search (rules, sents)
-
-pub sent-p-requires : goal.sent-p-requires
-sent-p-requires c = search (rules, sents)
-
-pub commit-requires : goal.commit-requires
-commit-requires c = sent_fits _ _ _ _ c.enter-x.ensures c.in-Place.is c.sent-p.ensures
-
-pub shape_of-table-in-No : goal.shape_of-table-in-No
-shape_of-table-in-No c = search (rules, sents)
-
-pub returns-in-No : goal.returns-in-No
-returns-in-No c = search (rules, sents)
-
-pub shape_of-table-in-Absent : goal.shape_of-table-in-Absent
-shape_of-table-in-Absent c = search (rules, sents)
-
-pub returns-in-Absent : goal.returns-in-Absent
-returns-in-Absent c = search (rules, sents)
-
-pub shape_of-table-in-Place : goal.shape_of-table-in-Place
-shape_of-table-in-Place c = search (rules, sents)
-
-pub returns-in-Place : goal.returns-in-Place
-returns-in-Place c = search (rules, sents)
+pub returns : goal.returns
+unfolding sent_after
+returns c = c.on_stream.ensures sent_done (λ s r e. search rules)

@@ -2,14 +2,11 @@
 use Rattle.text.proofs.Laws.{bytes_none, bytes_are}
 use Rattle.text.proofs.bytes_at.Goals as goal
 
-pub returns-then-start-end : goal.returns-then-start-end
-returns-then-start-end c = bytes_none _ _ _ _ c.word_at-w.ensures.value c.if-start-end.true
+pub returns-then-w : goal.returns-then-w
+returns-then-w c = bytes_none _ _ _ _ c.word_at-w.ensures.value c.if-w.true
 
-pub returns-in-End : goal.returns-in-End
-returns-in-End c = bytes_are _ _ _ _ c.word_at-w.ensures.value c.if-start-end.false c.hex_digits.ensures c.unhex.ensures c.in-End.is
+pub returns-in-Ok : goal.returns-in-Ok
+returns-in-Ok c = bytes_are _ _ _ _ c.word_at-w.ensures.value c.if-w.false c.hex_digits.ensures c.unhex.ensures c.in-Ok.is
 
-pub returns-in-Not : goal.returns-in-Not
-returns-in-Not c = bytes_are _ _ _ _ c.word_at-w.ensures.value c.if-start-end.false c.hex_digits.ensures c.unhex.ensures c.in-Not.is
-
-pub returns-in-Room : goal.returns-in-Room
-returns-in-Room c = bytes_are _ _ _ _ c.word_at-w.ensures.value c.if-start-end.false c.hex_digits.ensures c.unhex.ensures c.in-Room.is
+pub returns-in-Err : goal.returns-in-Err
+returns-in-Err c = bytes_are _ _ _ _ c.word_at-w.ensures.value c.if-w.false c.hex_digits.ensures c.unhex.ensures c.in-Err.is

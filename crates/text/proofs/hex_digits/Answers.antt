@@ -5,5 +5,5 @@ use Rattle.text.proofs.hex_digits.Goals as goal
 pub returns-then-same : goal.returns-then-same
 returns-then-same c = digits_none _ c.same.ensures c.if-same.true
 
-pub returns : goal.returns
-returns c = digits_all _ c.same.ensures c.if-same.false
+pub returns-else-same : goal.returns-else-same
+returns-else-same c = digits_all _ c.same.ensures c.if-same.false

@@ -2,8 +2,8 @@
 use Rattle.text.proofs.Laws.{number_is}
 use Rattle.text.proofs.number_at.Goals as goal
 
-pub returns-in-Is : goal.returns-in-Is
-returns-in-Is c = number_is _ _ c.word_at-w.ensures.value c.decimal.ensures c.in-Is.is
+pub returns-in-Some : goal.returns-in-Some
+returns-in-Some c = number_is _ _ c.word_at-w.ensures.value c.decimal.ensures c.in-Some.is
 
-pub returns-in-Not : goal.returns-in-Not
-returns-in-Not c = number_is _ _ c.word_at-w.ensures.value c.decimal.ensures c.in-Not.is
+pub returns-in-None : goal.returns-in-None
+returns-in-None c = number_is _ _ c.word_at-w.ensures.value c.decimal.ensures c.in-None.is

@@ -11,9 +11,6 @@ returns-then-not-is_hex c = search (rules, unhex_laws)
 pub returns-then-out-at : goal.returns-then-out-at
 returns-then-out-at c = search (rules, unhex_laws)
 
-pub returns-then-out-at-2 : goal.returns-then-out-at-2
-returns-then-out-at-2 c = search (rules, unhex_laws)
-
 pub fill-requires : goal.fill-requires
 fill-requires c =
     let e = c.is_hex.ensures in

@@ -10,6 +10,4 @@ pub returns-in-103 : goal.returns-in-103
 returns-in-103 c = search (rules, one_second)
 
 pub returns-in_default : goal.returns-in_default
-returns-in_default c =
-    let r = c.in_default.in_default-own.rest in
-    one_numbers _ _ _ _ _ r.0.1 r.1 c.one_of_numbers.ensures
+returns-in_default c = search (rules, one_numbers)

@@ -1,6 +1,7 @@
 -- `words::one_of_numbers` meets its contract. Each return rewrites with the tests that led there and with what the calls before it promise. Assumes nothing.
 use Rattle.words.specs.Words.{numbers_taken}
 use Rattle.words.proofs.Laws.{numbers_is, numbers_none}
+use borrow.Author.Rules.{rules}
 use Rattle.words.proofs.one_of_numbers.Goals as goal
 
 pub returns-in-110 : goal.returns-in-110
@@ -24,6 +25,4 @@ unfolding numbers_taken
 returns-in-42 c = numbers_is _ _ _ _ 42 c.in-42.is c.take_pairs.ensures
 
 pub returns-in_default : goal.returns-in_default
-returns-in_default c =
-    let r = c.in_default.in_default-own.rest in
-    numbers_none _ _ _ _ r.0.0.0.0.1 r.0.0.0.1 r.0.0.1 r.0.1 r.1
+returns-in_default c = search (rules, numbers_none)

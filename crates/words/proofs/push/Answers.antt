@@ -3,8 +3,8 @@ use Rattle.words.proofs.Laws.{push_full, push_on}
 use borrow.Author.Rules.{rules}
 use Rattle.words.proofs.push.Goals as goal
 
-pub returns-then-numbers-k : goal.returns-then-numbers-k
-returns-then-numbers-k c = search (rules, push_full)
+pub returns-then-numbers-c : goal.returns-then-numbers-c
+returns-then-numbers-c c = search (rules, push_full)
 
 pub returns : goal.returns
 returns c = search (rules, push_on)

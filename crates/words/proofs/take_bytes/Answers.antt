@@ -6,8 +6,8 @@ use Rattle.words.proofs.take_bytes.Goals as goal
 pub returns-then-second : goal.returns-then-second
 returns-then-second c = search (rules, bytes_second)
 
-pub returns-then-b : goal.returns-then-b
-returns-then-b c = search (rules, bytes_first)
+pub returns-else-second : goal.returns-else-second
+returns-else-second c = search (rules, bytes_first)
 
-pub returns : goal.returns
-returns c = search (rules, bytes_not)
+pub returns-in_default : goal.returns-in_default
+returns-in_default c = search (rules, bytes_not)

@@ -9,5 +9,5 @@ returns-then-same c = search (rules, name_zero)
 pub returns-then-same-2 : goal.returns-then-same-2
 returns-then-same-2 c = search (rules, name_one)
 
-pub returns : goal.returns
-returns c = search (rules, name_not)
+pub returns-else-same-2 : goal.returns-else-same-2
+returns-else-same-2 c = search (rules, name_not)

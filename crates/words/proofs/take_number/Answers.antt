@@ -3,8 +3,8 @@ use Rattle.words.proofs.Laws.{number_in, number_not}
 use borrow.Author.Rules.{rules}
 use Rattle.words.proofs.take_number.Goals as goal
 
-pub returns-then-n : goal.returns-then-n
-returns-then-n c = search (rules, number_in)
+pub returns-in-Some : goal.returns-in-Some
+returns-in-Some c = search (rules, number_in)
 
-pub returns : goal.returns
-returns c = search (rules, number_not)
+pub returns-in-None : goal.returns-in-None
+returns-in-None c = search (rules, number_not)

@@ -6,8 +6,8 @@ use Rattle.words.proofs.take_option.Goals as goal
 pub returns-then-same : goal.returns-then-same
 returns-then-same c = search (rules, option_none)
 
-pub returns-then-n : goal.returns-then-n
-returns-then-n c = search (rules, option_some)
+pub returns-in-Some : goal.returns-in-Some
+returns-in-Some c = search (rules, option_some)
 
-pub returns : goal.returns
-returns c = search (rules, option_not)
+pub returns-in-None : goal.returns-in-None
+returns-in-None c = search (rules, option_not)

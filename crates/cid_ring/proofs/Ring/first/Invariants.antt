@@ -5,6 +5,3 @@ use Rattle.cid_ring.proofs.Ring.first.Given as goal
 
 abbrev pub invariant-loop-n : goal.invariant-loop-n
 invariant-loop-n l = first (held l.self) l.from (l.past - l.from) ≡ first (held l.self) l.n (l.past - l.n)
-
-abbrev pub decreases-loop-n : goal.decreases-loop-n
-decreases-loop-n l = l.past - l.n

@@ -2,14 +2,15 @@
 use borrow.Author.Rules.{rules}
 use mathlib.Core.Path.{◌≡◌, ap, ◌∙◌}
 use mathlib.Core.List.{List}
-use Prim.Native.Nat.{ℕ, ◌-◌}
+use Prim.Native.Nat.{ℕ}
 use native.Mathlib.Omega.{arith}
-use Rattle.cid_ring.specs.declared.Slot.{Slot}
+use Rattle.std.specs.Prelude.{Option}
+use Rattle.cid_ring.specs.declared.Cid.{Cid}
 use Rattle.cid_ring.specs.declared.Ring.{Ring}
 use Rattle.cid_ring.proofs.Places.{five, past, below, below_none, below_more, below_all, retired_none}
 use Rattle.cid_ring.proofs.Ring.retire.Goals as goal
 
-abbrev closed : List Slot → ℕ → Ring
+abbrev closed : List (Option Cid) → ℕ → Ring
 closed l a = record { slots = l; offset = a }
 
 pub returns-then-to-self : goal.returns-then-to-self
@@ -22,7 +23,7 @@ pub loop-at-preserved : goal.loop-at-preserved
 loop-at-preserved c =
     let q = c.args.self in
     let n = c.loop-at.at in
-    (omega arith, omega arith, rw (c.loop-at.invariant.2, c.vacant-none.ensures) (below_more q n (omega arith) (omega arith)))
+    (omega arith, omega arith, rw (c.loop-at.invariant.2, c.place.ensures) (below_more q n (omega arith) (omega arith)))
 
 pub returns : goal.returns
 returns c =
@@ -30,4 +31,4 @@ returns c =
     let to = c.args.to in
     let e : c.loop-at.at ≡ past q to = omega arith in
     let f : c.loop-at.slots ≡ below q (past q to) = c.loop-at.invariant.2 ∙ ap (below q) e in
-    ap (λ (l : List Slot). closed l to) f ∙ below_all q to (omega arith)
+    ap (λ (l : List (Option Cid)). closed l to) f ∙ below_all q to (omega arith)

@@ -1,10 +1,7 @@
 use mathlib.Core.Path.{◌≡◌}
-use Prim.Native.Nat.{◌-◌, ◌≤◌}
+use Prim.Native.Nat.{◌≤◌}
 use Rattle.cid_ring.proofs.Places.{below}
 use Rattle.cid_ring.proofs.Ring.retire.Given as goal
 
 abbrev pub invariant-loop-at : goal.invariant-loop-at
 invariant-loop-at l = (l.initial.at ≤ l.at) × (l.at ≤ l.past) × (l.slots ≡ below (record { slots = l.initial.slots; offset = l.initial.at }) l.at)
-
-abbrev pub decreases-loop-at : goal.decreases-loop-at
-decreases-loop-at l = l.past - l.at

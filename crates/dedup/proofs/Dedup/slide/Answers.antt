@@ -1,4 +1,4 @@
--- Each return is one law of `slides`: the words after the shift hold the marks bit by bit.
+-- Each branch is one law of `slides`: the words after the shift hold the marks bit by bit.
 use Rattle.dedup.proofs.Laws.{slides}
 use borrow.Author.Rules.{rules}
 use Rattle.dedup.proofs.Dedup.slide.Goals as goal
@@ -9,5 +9,5 @@ returns-then-by-ge128 c = search (rules, slides)
 pub returns-then-by-ge64 : goal.returns-then-by-ge64
 returns-then-by-ge64 c = search (rules, slides)
 
-pub returns : goal.returns
-returns c = search (rules, slides)
+pub returns-else-by-ge64 : goal.returns-else-by-ge64
+returns-else-by-ge64 c = search (rules, slides)

@@ -1,7 +1,0 @@
--- The expression is the definition.
-use Rattle.black_hole.proofs.Laws.{laws}
-use borrow.Author.Rules.{rules}
-use Rattle.black_hole.proofs.Bursts.good_place.Goals as goal
-
-pub returns : goal.returns
-returns c = search (rules, laws)

@@ -1,7 +1,0 @@
--- `drive_st::none` meets its contract. Each return is a law of Laws.antt, from what the calls before it promise. Assumes nothing.
-use Rattle.drive_st.proofs.Laws.{begins}
-use borrow.Author.Rules.{rules}
-use Rattle.drive_st.proofs.none.Goals as goal
-
-pub returns : goal.returns
-returns c = search (rules, begins)

@@ -1,7 +1,0 @@
--- `drive_st::open` meets its contract. Each return is a law of Laws.antt, from what the calls before it promise. Assumes nothing.
-use Rattle.drive_st.proofs.Laws.{changes}
-use borrow.Author.Rules.{rules}
-use Rattle.drive_st.proofs.open.Goals as goal
-
-pub returns : goal.returns
-returns c = search (rules, changes)
