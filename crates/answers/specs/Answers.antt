@@ -1,6 +1,6 @@
 -- The answers' numbers, for contracts and definitions to cite: the same names as the constants of src/lib.rt, which are 01's table; and the number of
 -- each refusal. Assumes nothing.
-use Rattle.std.specs.Prelude.{ℕ}
+use Rattle.std.specs.Prelude.{ℕ, List, codes}
 use Rattle.answers.specs.declared.Refusal.{Refusal}
 use Rattle.answers.specs.declared.Refusal.TheVariants.{Short, Range, Malformed, Kind, Full, Order, Flow, Final, Limit, State, Room, Retired}
 
@@ -57,3 +57,18 @@ number Limit = LIMIT
 number State = STATE
 number Room = ROOM
 number Retired = RETIRED
+
+-- and with its name, as bytes
+abbrev pub name : Refusal → List ℕ
+name Short = codes "SHORT"
+name Range = codes "RANGE"
+name Malformed = codes "MALFORMED"
+name Kind = codes "KIND"
+name Full = codes "FULL"
+name Order = codes "ORDER"
+name Flow = codes "FLOW"
+name Final = codes "FINAL"
+name Limit = codes "LIMIT"
+name State = codes "STATE"
+name Room = codes "ROOM"
+name Retired = codes "RETIRED"

@@ -3,8 +3,8 @@
 // A refusal leaves all lent memory as it was, and what was given by value is the caller's still.
 #![tactic(auto)]
 
-ghost use Rattle.std.specs.Prelude.{◌≡◌};
-ghost use Rattle.answers.specs.Answers.{number};
+ghost use Rattle.std.specs.Prelude.{◌≡◌, Some};
+ghost use Rattle.answers.specs.Answers.{number, name};
 
 use std::error::Error;
 use std::fmt;
@@ -62,6 +62,8 @@ impl From<Refusal> for u8 {
 
 // Its name in the table.
 impl fmt::Display for Refusal {
+    ghost output = { λ why. Some (name why) };
+
     fn fmt<W: fmt::Write>(&self, f: &mut fmt::Formatter<W>) -> fmt::Result {
         f.write_str(match self {
             Refusal::Short => "SHORT",

@@ -4,7 +4,6 @@
 
 use lines::{Feed, Kind};
 use out::Out;
-use std::fmt::Write;
 use std::io::{Error, Read, Result};
 
 // The line of a frame: into a list of 64 ranges.
@@ -12,7 +11,7 @@ fn show(frame: &[u8], list: &mut [u64], out: &mut Out) {
     match ack_frame::read(frame, list) {
         Ok(a) => {
             say_answer::name(out, answers::OK);
-            let _ = write!(out, " taken {} delay {} ranges", a.taken, a.delay);
+            say::form(out, b" taken % delay % ranges", &[a.taken as u64, a.delay]);
             say::ranges(out, list, a.count);
         }
         Err(why) => say_answer::name(out, u8::from(why)),

@@ -74,18 +74,17 @@ pub fn step(
     let kind = code / 16;
     // The modules 0 to 3 and 7 have no state, 4 to 6 are of the lists, the others of the peer.
     match kind {
-        0..=3 | 7 => leaf(e, numbers, bytes, scratch, s, list),
+        0..=3 | 7 => return leaf(e, numbers, bytes, scratch, s, list),
         4..=6 => {
             let l = ledger_lists::step(kind, code, e.count, numbers, s.lists, memory, list);
             s.lists = l;
-            s
         }
         _ => {
             let p = ledger_peers::step(
                 kind, code, e.first, e.size, numbers, bytes, s.peers, memory,
             );
             s.peers = p;
-            s
         }
     }
+    s
 }

@@ -70,19 +70,17 @@ pub fn step(
             let old = s.cids;
             let g = drive_cq::step(code, numbers, bytes, first, size, old.kept);
             s.cids = g;
-            s
         }
         MTUD => {
             let old = s.mtud;
             let g = drive_mt::step(code, numbers, old.kept);
             s.mtud = g;
-            s
         }
         _ => {
             let old = s.streams;
             let g = books(code, numbers, old.kept, memory);
             s.streams = g;
-            s
         }
     }
+    s
 }

@@ -17,6 +17,7 @@ use Rattle.mtu_search.specs.Search as search
 use Rattle.mtu_search.specs.Measure.{shortfall}
 use Rattle.answers.proofs.Tests.{never}
 use Rattle.mtu_search.proofs.Laws.{onward_by, turn_by}
+use Rattle.mtu_search.proofs.Kept.{TurnFine, turn_fine}
 use Rattle.mtu_phase.specs.declared.Phase.TheVariants.{Searching, Complete}
 use Rattle.mtu_phase.specs.Phase.{searching_b, flying_of}
 use Rattle.mtud.specs.declared.MtuDiscovery.{MtuDiscovery}
@@ -26,7 +27,7 @@ use Rattle.mtud_history.specs.Left.{left_polled, probe_of}
 use Rattle.mtud_history.specs.Bounds.{sizes_of}
 use Rattle.mtud_history.proofs.Cases.{same_ok, never_some, never_none, polled_by, rested_by}
 use Rattle.mtud_history.proofs.Calls.{Poll, Flying, CurrentMtu}
-use Rattle.mtud_history.proofs.Kept.{Held, held_good, polled_held}
+use Rattle.mtud_history.proofs.Kept.{Held, held_good, change_some, polled_held}
 use Rattle.mtud_history.proofs.History.{size_is}
 use Rattle.mtu_search.proofs.History.{Any, Passes, Stops}
 use Rattle.mtu_search.proofs.Distance.{steps_near}
@@ -91,10 +92,11 @@ module _ (S : ℕ) where
 abbrev pub Rests : MtuDiscovery → ℕ → Result Polled Refusal → Type 0
 Rests m now r = r ≡ Ok (quiet (at m (Complete (now + m.config.interval))))
 
--- r asks for a probe
+-- r asks for a probe, of a size
 pub record Asks (r : Result Polled Refusal) : Type 0 where
   pub size : ℕ
   pub is : probe_of r ≡ Some size
+  pub some : 0 < size
 
 rested_rests : (m : MtuDiscovery) (now : ℕ) → now + m.config.interval < 2 ^ 64 → Rests m now (quietly (rested m now m.config.interval))
 unfolding rested
@@ -117,12 +119,12 @@ turn_moves s change n f =
     turn_by (λ (u : Turn). Waiting ≡ u → ⊥) s change n (λ h e. never (sym f ∙ h)) (λ h z. onward_moves s.last s.upper s.last change n)
     (λ h z l e. let y : ◌≡◌ {A = ℕ} 0 1 = cc in omega arith) (λ h z l. onward_moves s.lower (s.last - 1) s.last change n)
 
-pub turned_moves : (m : MtuDiscovery) (now : ℕ) (u : Turn) → (Waiting ≡ u → ⊥) → now + m.config.interval < 2 ^ 64
+pub turned_moves : (m : MtuDiscovery) (now : ℕ) (u : Turn) → (Waiting ≡ u → ⊥) → TurnFine u m.current (or_most m.peer) → now + m.config.interval < 2 ^ 64
     → Asks (turned u m now) ⊎ Rests m now (turned u m now)
-unfolding turned
-turned_moves m now Waiting w h = absurd (w refl)
-turned_moves m now (Probing s) w h = inl (record { size = s.last; is = refl })
-turned_moves m now Over w h = inr (rested_rests m now h)
+unfolding turned TurnFine
+turned_moves m now Waiting w f h = absurd (w refl)
+turned_moves m now (Probing s) w f h = inl (record { size = s.last; is = refl; some = omega (arith, f) })
+turned_moves m now Over w f h = inr (rested_rests m now h)
 
 -- what in_flight_mtu_probe says of a search
 flying_is : (m : MtuDiscovery) (s : SearchState) → Ok None ≡ in_flight m → good m ≡ true → m.phase ≡ Searching s → s.flying ≡ false
@@ -143,8 +145,11 @@ module _ (Ack Miss : ℕ → Type 0) (o : MtuDiscovery) (zs : List ℕ) (m : Mtu
   pub moves_by : (now n : ℕ) → k.state.flying ≡ false → n < 2 ^ 62 → now + m.config.interval < 2 ^ 64 → Asks (polled m now n) ⊎ Rests m now (polled m now n)
   moves_by now n f hn h =
       let i = poll_is m now n (held_good k.held) hn ∙ turn_is Ack Miss o zs m k now n in
+      let g = fine Ack Miss o zs m k in
       let c = m.config.change in
-      subst (λ (r : Result Polled Refusal). Asks r ⊎ Rests m now r) (sym i) (turned_moves m now (search.turn k.state c n) (turn_moves k.state c n f) h)
+      subst (λ (r : Result Polled Refusal). Asks r ⊎ Rests m now r) (sym i)
+      (turned_moves m now (search.turn k.state c n) (turn_moves k.state c n f)
+      (turn_fine k.state m.current (or_most m.peer) g.1 c n (change_some m.config g.0) hn) h)
 
 module _ {zs : List ℕ} {m : MtuDiscovery} (h : Search zs m) (fl : Flying m (Ok None)) (now n : ℕ) (r : Result Polled Refusal) (e : Poll m now n r)
     (hn : n < 2 ^ 62) (fits : now + m.config.interval < 2 ^ 64) where

@@ -16,6 +16,7 @@ use Rattle.mtu_search.specs.declared.SearchState.{SearchState}
 use Rattle.mtu_search.specs.Search as search
 use Rattle.mtu_search.specs.Measure.{shortfall}
 use Rattle.mtu_search.specs.Count.{sizes}
+use Rattle.mtu_search.proofs.Kept.{first_fine}
 use Rattle.mtu_search.proofs.Counts.{sizes_none}
 use Rattle.mtu_search.proofs.History.{Any, Passes, Stops, Fit, newest, sure, steps_sizes}
 use Rattle.mtu_search.proofs.Distance.{steps_near, first_near}
@@ -121,7 +122,8 @@ module _ (Ack Miss : ℕ → Type 0) (ok : List ℕ → Bool) (acks : (x : ℕ) 
       let n = number [] in
       let c = o.config.change in
       subst (λ (r : Result Polled Refusal). Moves o now r) (sym first_is)
-      (turned_moves o now (search.turn (begun_in o) c n) (turn_moves (begun_in o) c n (begun_idle o)) (fits []))
+      (turned_moves o now (search.turn (begun_in o) c n) (turn_moves (begun_in o) c n (begun_idle o))
+      (first_fine o.current (or_most o.peer) o.config.upper c n k.low k.under (change_some o.config config_good) (small [])) (fits []))
 
   idle_is : {zs : List ℕ} {m : MtuDiscovery} (g : Going Ack Miss o zs m) → Idle m → g.state.flying ≡ false
   idle_is g i = let e : g.state ≡ i.state = cc (sym g.at ∙ i.at) in ap (λ (s : SearchState). s.flying) e ∙ i.idle

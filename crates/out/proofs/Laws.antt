@@ -1,21 +1,19 @@
 -- The ways that a text can go: it had room, or it had none, and then what was gathered was written out first. Assumes nothing.
 use mathlib.Core.Path.{◌≡◌, refl, sym, ap, ◌∙◌}
-use mathlib.Core.List.{List, [], ◌∷◌, ◌++◌}
+use mathlib.Core.List.{List}
 use mathlib.Core.Bool.{Bool, true, false, cond}
-use mathlib.Core.Logic.{inl, inr, ⊎_elim}
-use Prim.Native.Nat.{ℕ, zero, suc, ◌+◌, ◌/◌, ◌%◌, ◌≤◌}
+use mathlib.Core.Logic.{inl, inr}
+use Prim.Native.Nat.{ℕ, ◌+◌, ◌≤◌}
 use native.Mathlib.Omega.{arith}
-use lib.ListN.{length, take, drop, length-append}
-use lib.Seq.{sets, take_at}
+use lib.ListN.{length}
+use lib.Seq.{sets}
 use lib.Dec.{leb}
-use borrow.Author.Tests.{lt-ltb, le-ltb, lt-leb, le-leb}
+use borrow.Author.Tests.{lt-leb}
 use Rattle.std.specs.Prelude.{Result, Ok, Err}
 use Rattle.std.specs.Result.{IsOk, IsErr}
-use Rattle.std.proofs.lemmas.List.Edits.{sets-eq}
 use Rattle.answers.specs.declared.Refusal.{Refusal}
 use Rattle.answers.specs.declared.Refusal.TheVariants.{Room as NoRoom}
-use Rattle.answers.proofs.Tests.{split}
-use Rattle.print.specs.Print.{glyph, decimal_onto, decimal, range, put_at, done}
+use Rattle.print.specs.Print.{put_at, done}
 use Rattle.out.specs.Went.{Room, Went, Later, FAILED, Written, Flushed}
 use Rattle.out.specs.Went.Later.{failed, start, long}
 
@@ -75,6 +73,10 @@ module _ (buf s : List ℕ) (at₁ : ℕ) {why : Refusal} {m : List ℕ} (e : do
   second_out : at₁ ≡ FAILED → Later buf s m at₁
   second_out z = failed z (was buf at₁ s e)
 
+  second_none : Written at₁ → Later buf s m at₁
+  second_none (inl z) = long (no buf 0 s (e ∙ ap (λ k. put_at buf k s) z)) (inl z) (was buf at₁ s e)
+  second_none (inr z) = failed z (was buf at₁ s e)
+
   second_long : (at₂ : ℕ) → Written at₁ → (at₁ ≡ FAILED → ⊥) → Written at₂ → Later buf s m at₂
   second_long at₂ (inl z) k w = long (no buf 0 s (e ∙ ap (λ k. put_at buf k s) z)) w (was buf at₁ s e)
   second_long at₂ (inr z) k w = absurd (k z)
@@ -92,67 +94,9 @@ module _ (buf : List ℕ) (at : ℕ) (s : List ℕ) {why : Refusal} {m m₁ : Li
   pub later_out : {no : Refusal} → done (Err no) m₂ ≡ put_at m₁ at₁ s → at₁ ≡ FAILED → Went buf at s m₂ at₁
   later_out e₂ z = went_out buf at s e m₂ at₁ (λ k. second_out buf s at₁ (again buf at s e g e₂) z)
 
+  -- no room for it either way, and no third try
+  pub later_none : {no : Refusal} → done (Err no) m₂ ≡ put_at m₁ at₁ s → Went buf at s m₂ at₁
+  later_none e₂ = went_out buf at s e m₂ at₁ (λ k. second_none buf s at₁ (again buf at s e g e₂) (g.place k))
+
   pub later_long : {no : Refusal} {at₂ : ℕ} → done (Err no) m₂ ≡ put_at m₁ at₁ s → (at₁ ≡ FAILED → ⊥) → Written at₂ → Went buf at s m₂ at₂
   later_long {at₂ = at₂} e₂ n w = went_out buf at s e m₂ at₂ (λ k. second_long buf s at₁ (again buf at s e g e₂) at₂ (g.place k) n w)
-
--- ---- a text that is put into a buffer of its own first
-
-onto_length : (k n : ℕ) (rest : List ℕ) → length (decimal_onto k n rest) ≤ k + length rest
-unfolding decimal_onto
-onto_length zero n rest = omega arith
-onto_length (suc k) n rest =
-    ⊎_elim
-    (λ a. rw (lt-ltb 9 n a) (let h : length (decimal_onto k (n / 10) (glyph (n % 10) ∷ rest)) ≤ k + suc (length rest) = onto_length k (n / 10) (glyph (n % 10) ∷ rest) in omega arith))
-    (λ a. rw (le-ltb 9 n a) (omega arith))
-    (split 9 n)
-
-pub decimal_length : (n : ℕ) → length (decimal n) ≤ 20
-unfolding decimal
-decimal_length n = onto_length 20 n []
-
-pub range_length : (a b : ℕ) → length (range a b) ≤ 42
-unfolding range
-range_length a b = let x = decimal_length a in let y = decimal_length b in simp length-append (omega arith)
-
--- it has room there, if the buffer is as long as the text
-pub own_ok : (l s : List ℕ) {why : Refusal} {m : List ℕ} → length s ≤ length l → done (Err why) m ≡ put_at l 0 s → ⊥
-unfolding put_at
-own_ok l s {why} {m} h e =
-    let g : done (Err why) m ≡ done (Ok (0 + length s)) (sets l 0 s) = rw (le-leb (0 + length s) (length l) (omega arith)) at e in
-    let z : ◌≡◌ {A = Result ℕ Refusal} (Err why) (Ok (0 + length s)) = ap (λ d. d.out) g in
-    cc
-
-module _ (l s : List ℕ) {end : ℕ} {m : List ℕ} (e : done (Ok end) m ≡ put_at l 0 s) where
-  fits : length s ≤ length l
-  unfolding put_at
-  fits =
-      ⊎_elim
-      (λ a.
-      let g : done (Ok end) m ≡ done (Err NoRoom) l = rw (lt-leb (0 + length s) (length l) (omega arith)) at e in
-      let z : ◌≡◌ {A = Result ℕ Refusal} (Ok end) (Err NoRoom) = ap (λ d. d.out) g in
-      cc)
-      (λ a. a)
-      (split (length l) (length s))
-
-  gave : done (Ok end) m ≡ done (Ok (0 + length s)) (sets l 0 s)
-  unfolding put_at
-  gave = rw (le-leb (0 + length s) (length l) (let h = fits in omega arith)) at e
-
-  end_is : end ≡ length s
-  end_is = let z : ◌≡◌ {A = Result ℕ Refusal} (Ok end) (Ok (0 + length s)) = ap (λ d. d.out) gave in let n : end ≡ 0 + length s = cc in omega arith
-
-  mem_is : m ≡ s ++ drop (0 + length s) l
-  mem_is = ap (λ d. d.mem) gave ∙ sets-eq s l 0 (let h = fits in omega arith)
-
-  pub own_end : end ≤ length m
-  own_end = let n = end_is in rw (mem_is, length-append) (omega arith)
-
-  -- and what stands up to its end is the text
-  own_text : take end m ≡ s
-  own_text = rw (end_is, mem_is) (take_at s (drop (0 + length s) l) (length s) refl)
-
-  pub own_whole : end ≡ length (take end m)
-  own_whole = rw own_text end_is
-
-  pub own_went : {b b' : List ℕ} {a a' : ℕ} → Went b a (take end m) b' a' → Went b a s b' a'
-  own_went w = rw own_text at w

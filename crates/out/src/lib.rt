@@ -59,9 +59,14 @@ impl Out {
     pub fn number(&mut self, n: u64)
         ensures { Went self.old.buf self.old.at (decimal n) self.new.buf self.new.at }
     {
-        let mut digits = [0u8; 20];
-        if let Ok(end) = print::number(&mut digits, 0, n) {
-            self.text(&digits[..end]);
+        if let Ok(next) = print::number(&mut self.buf, self.at, n) {
+            self.at = next;
+            return;
+        }
+        self.flush();
+        let again = print::number(&mut self.buf, self.at, n);
+        if let Ok(next) = again {
+            self.at = next;
         }
     }
 
@@ -69,9 +74,14 @@ impl Out {
     pub fn range(&mut self, a: u64, b: u64)
         ensures { Went self.old.buf self.old.at (Print·range a b) self.new.buf self.new.at }
     {
-        let mut both = [0u8; 42];
-        if let Ok(end) = print::range(&mut both, 0, a, b) {
-            self.text(&both[..end]);
+        if let Ok(next) = print::range(&mut self.buf, self.at, a, b) {
+            self.at = next;
+            return;
+        }
+        self.flush();
+        let again = print::range(&mut self.buf, self.at, a, b);
+        if let Ok(next) = again {
+            self.at = next;
         }
     }
 
@@ -87,10 +97,20 @@ impl Out {
 
     fn hex_parts(&mut self, s: &[u8]) {
         for part in s.chunks(1024) {
-            let mut digits = [0u8; 2048];
-            if let Ok(end) = print::hex(&mut digits, 0, part) {
-                self.text(&digits[..end]);
-            }
+            self.hex_part(part);
+        }
+    }
+
+    // Puts a part of such a string.
+    fn hex_part(&mut self, s: &[u8]) {
+        if let Ok(next) = print::hex(&mut self.buf, self.at, s) {
+            self.at = next;
+            return;
+        }
+        self.flush();
+        let again = print::hex(&mut self.buf, self.at, s);
+        if let Ok(next) = again {
+            self.at = next;
         }
     }
 }

@@ -6,8 +6,8 @@ use Prim.Native.Nat.{ℕ, zero, suc, ◌+◌, ◌-◌, ◌*◌, ◌/◌, ◌≤�
 use native.Mathlib.Numerals.{add-one}
 use native.Mathlib.Nat.{add-zero, sub-zero, zero-add, not-suc-le-zero, le_of_suc-le-suc}
 use native.Mathlib.Omega.{arith}
-use lib.ListN.{length, take, drop, get_or, set, length-append, length-drop}
-use lib.Seq.{paste, length-paste, drop-cons, set-append_seam, append_snoc, length-take-le, take-append-le, take-take, drop_at, sets, sets-eq}
+use lib.ListN.{length, take, drop, get_or, set, length-append, length-drop, take-append-drop}
+use lib.Seq.{paste, length-paste, drop-cons, set-append_seam, append_snoc, length-take-le, take-append-le, take-take, drop_at, sets, sets-eq, take-add}
 use Rattle.range_list.specs.Ranges.{Range, range_at, read, flat, over, splice}
 
 -- the ranges from number i on are range i and those from i + 1 on
@@ -92,31 +92,28 @@ flat_splice l n lo hi mid h p q =
 
 -- what `splice_one` leaves
 pub splice_one_is : (l now : List ℕ) (n lo hi a b : ℕ) → lo ≤ hi → hi ≤ n → n ≤ length l / 2 → lo + 1 + (n - hi) ≤ length l / 2
-    → now ≡ paste l (lo * 2 + 2) (drop (hi * 2) l) (n * 2 - hi * 2)
+    → now ≡ paste l (lo * 2 + 2) (drop (hi * 2) l) ((n - hi) * 2)
     → set (set now (lo * 2) a) (lo * 2 + 1) b ≡ over (flat (splice (read l 0 n) lo hi (record { lo = a; hi = b } ∷ []))) l
 splice_one_is l now n lo hi a b h p q r e =
-    let k : n * 2 - hi * 2 ≡ (n - hi) * 2 = omega arith in
-    (λ j. set (set ((e ∙ ap (paste l (lo * 2 + 2) (drop (hi * 2) l)) k) j) (lo * 2) a) (add-one (lo * 2) j) b)
+    (λ j. set (set (e j) (lo * 2) a) (add-one (lo * 2) j) b)
     ∙ splice_flat l (a ∷ b ∷ []) (lo * 2) (hi * 2) ((n - hi) * 2) (omega arith) (omega arith) (omega arith)
     ∙ ap (λ (x : List ℕ). over x l) (flat_splice l n lo hi (record { lo = a; hi = b } ∷ []) h p q)
 
 pub splice_none_is : (l : List ℕ) (n lo hi : ℕ) → lo ≤ hi → hi ≤ n → n ≤ length l / 2
-    → paste l (lo * 2) (drop (hi * 2) l) (n * 2 - hi * 2) ≡ over (flat (splice (read l 0 n) lo hi [])) l
+    → paste l (lo * 2) (drop (hi * 2) l) ((n - hi) * 2) ≡ over (flat (splice (read l 0 n) lo hi [])) l
 splice_none_is l n lo hi h p q =
-    let k : n * 2 - hi * 2 ≡ (n - hi) * 2 = omega arith in
-    (λ j. paste l (sym (add-zero (lo * 2)) j) (drop (hi * 2) l) (k j))
+    ap (λ (x : ℕ). paste l x (drop (hi * 2) l) ((n - hi) * 2)) (sym (add-zero (lo * 2)))
     ∙ splice_flat l [] (lo * 2) (hi * 2) ((n - hi) * 2) (omega arith) (omega arith) (omega arith)
     ∙ ap (λ (x : List ℕ). over x l) (flat_splice l n lo hi [] h p q)
 
 pub splice_two_is : (l now : List ℕ) (n lo hi a b x y : ℕ) → lo ≤ hi → hi ≤ n → n ≤ length l / 2 → lo + 2 + (n - hi) ≤ length l / 2
-    → now ≡ paste l (lo * 2 + 4) (drop (hi * 2) l) (n * 2 - hi * 2)
+    → now ≡ paste l (lo * 2 + 4) (drop (hi * 2) l) ((n - hi) * 2)
     → set (set (set (set now (lo * 2) a) (lo * 2 + 1) b) (lo * 2 + 2) x) (lo * 2 + 3) y ≡ over (flat (splice (read l 0 n) lo hi (record { lo = a; hi = b } ∷ record { lo = x; hi = y } ∷ []))) l
 splice_two_is l now n lo hi a b x y h p q r e =
     let k1 : lo * 2 + 1 ≡ suc (lo * 2) = omega arith in
     let k2 : lo * 2 + 2 ≡ suc (suc (lo * 2)) = omega arith in
     let k3 : lo * 2 + 3 ≡ suc (suc (suc (lo * 2))) = omega arith in
-    let k : n * 2 - hi * 2 ≡ (n - hi) * 2 = omega arith in
-    (λ j. set (set (set (set ((e ∙ ap (paste l (lo * 2 + 4) (drop (hi * 2) l)) k) j) (lo * 2) a) (k1 j) b) (k2 j) x) (k3 j) y)
+    (λ j. set (set (set (set (e j) (lo * 2) a) (k1 j) b) (k2 j) x) (k3 j) y)
     ∙ splice_flat l (a ∷ b ∷ x ∷ y ∷ []) (lo * 2) (hi * 2) ((n - hi) * 2) (omega arith) (omega arith) (omega arith)
     ∙ ap (λ (z : List ℕ). over z l) (flat_splice l n lo hi (record { lo = a; hi = b } ∷ record { lo = x; hi = y } ∷ []) h p q)
 
@@ -160,3 +157,7 @@ read_at l i (suc k) zero d h = ap (range_at l) (sym (add-zero i))
 read_at l i (suc k) (suc m) d h =
     let e : i + 1 + m ≡ i + suc m = omega arith in
     read_at l (i + 1) k m d (le_of_suc-le-suc h) ∙ ap (range_at l) e
+
+-- a part that moves to where it stands
+pub paste_same : (l : List ℕ) (at n : ℕ) → paste l at (drop at l) n ≡ l
+paste_same l at n = ap (λ (r : List ℕ). r ++ drop (at + n) l) (sym (take-add at n l)) ∙ take-append-drop (at + n) l

@@ -23,12 +23,22 @@ pub fn well_formed(list: &[u64], count: usize) -> bool
     numbers.is_sorted_by(|a, b| *a < *b) && numbers[count * 2 - 1] <= LIMIT
 }
 
+// Moves n numbers from index `from` to index `to`; where they stand there already, however many they are, nothing is moved.
+fn shift(list: &mut [u64], from: usize, to: usize, n: usize)
+    requires { (from + n ≤ length list.old) × (to + n ≤ length list.old) }
+    ensures { list.new ≡ paste list.old to (drop from list.old) n }
+{
+    if from != to {
+        list.copy_within(from..from + n, to);
+    }
+}
+
 // Takes the ranges lo..hi out.
 pub fn splice_none(list: &mut [u64], count: usize, lo: usize, hi: usize)
     requires { (lo ≤ hi) × (hi ≤ count) × (count ≤ length list.old / 2) }
     ensures { list.new ≡ over (flat (splice (read list.old 0 count) lo hi [])) list.old }
 {
-    list.copy_within(hi * 2..count * 2, lo * 2);
+    shift(list, hi * 2, lo * 2, (count - hi) * 2);
 }
 
 // Puts the range a..b in the place of the ranges lo..hi.
@@ -36,7 +46,7 @@ pub fn splice_one(list: &mut [u64], count: usize, lo: usize, hi: usize, a: u64, 
     requires { (lo ≤ hi) × (hi ≤ count) × (count ≤ length list.old / 2) × (lo + 1 + (count - hi) ≤ length list.old / 2) }
     ensures { list.new ≡ over (flat (splice (read list.old 0 count) lo hi (record { lo = a; hi = b } ∷ []))) list.old }
 {
-    list.copy_within(hi * 2..count * 2, lo * 2 + 2);
+    shift(list, hi * 2, lo * 2 + 2, (count - hi) * 2);
     list[lo * 2] = a;
     list[lo * 2 + 1] = b;
 }
@@ -55,7 +65,7 @@ pub fn splice_two(
     requires { (lo ≤ hi) × (hi ≤ count) × (count ≤ length list.old / 2) × (lo + 2 + (count - hi) ≤ length list.old / 2) }
     ensures { list.new ≡ over (flat (splice (read list.old 0 count) lo hi (record { lo = a; hi = b } ∷ record { lo = c; hi = d } ∷ []))) list.old }
 {
-    list.copy_within(hi * 2..count * 2, lo * 2 + 4);
+    shift(list, hi * 2, lo * 2 + 4, (count - hi) * 2);
     list[lo * 2] = a;
     list[lo * 2 + 1] = b;
     list[lo * 2 + 2] = c;

@@ -48,21 +48,20 @@ fn event(feed: Feed, buf: &[u8; 65536], lent: &mut Lent, out: &mut Out) -> Optio
 }
 
 // What comes of one call for the next line: its event and the event's line, where there is one.
-fn turn(feed: Feed, buf: &[u8; 65536], s: State, lent: &mut Lent, out: &mut Out) -> State {
+fn turn(feed: Feed, buf: &[u8; 65536], s: &mut State, lent: &mut Lent, out: &mut Out) {
     let Some(e) = event(feed, buf, lent, out) else {
-        return s;
+        return;
     };
-    let after = ledger::step(
+    *s = ledger::step(
         e,
         &lent.numbers,
         &lent.bytes,
         &mut lent.scratch,
-        s,
+        *s,
         &mut lent.memory,
         &mut lent.list,
     );
-    show::show(after, &lent.scratch, &lent.memory, &lent.list, out);
-    after
+    show::show(*s, &lent.scratch, &lent.memory, &lent.list, out);
 }
 
 // What is left to write is written. A write that failed, now or before, is the error.
@@ -92,7 +91,7 @@ fn run<R: Read>(source: &mut R) -> Result<()> {
     let mut state = ledger::begin();
     for _ in 0..u64::MAX {
         feed = lines::next(source, &mut buf, feed);
-        state = turn(feed, &buf, state, &mut lent, &mut out);
+        turn(feed, &buf, &mut state, &mut lent, &mut out);
         if matches!(feed.kind, Kind::End | Kind::Failed) {
             return finish(&mut out);
         }

@@ -1,22 +1,35 @@
-// What the programs print: an answer's values, ranges, byte strings, and the line for what is no event (docs/EVENTS.md).
+// What the programs print: forms with their numbers, an answer's values, ranges, byte strings, and the line for what is no event (docs/EVENTS.md).
 #![tactic(auto)]
 
 use events::NoEvent;
 use out::Out;
 use said::Said;
-use std::fmt;
-use std::fmt::Write;
+
+// A form, each `%` of it as the next of the values, nothing where they have run out. No `write!`: its digits are std's, and what `print::number`
+// promises is to be said of those that are put here.
+pub fn form(out: &mut Out, form: &[u8], values: &[u64]) {
+    if form.is_empty() {
+        return;
+    }
+    let mut values = values.iter();
+    for (k, text) in form.split(|b| *b == b'%').enumerate() {
+        if k > 0 {
+            if let Some(value) = values.next() {
+                out.number(*value);
+            }
+        }
+        // An empty text behind the first adds nothing.
+        if k == 0 || !text.is_empty() {
+            out.text(text);
+        }
+    }
+}
 
 // A number, or `-` where there is none.
-#[derive(Clone, Copy, Debug, PartialEq, Eq)]
-pub struct OrDash(pub Option<u64>);
-
-impl fmt::Display for OrDash {
-    fn fmt<W: fmt::Write>(&self, f: &mut fmt::Formatter<W>) -> fmt::Result {
-        match self.0 {
-            Some(n) => write!(f, "{n}"),
-            None => f.write_str("-"),
-        }
+pub fn or_dash(out: &mut Out, number: Option<u64>) {
+    match number {
+        Some(n) => out.number(n),
+        None => out.text(b"-"),
     }
 }
 
@@ -27,7 +40,8 @@ pub fn all(out: &mut Out, s: Said) {
         return;
     }
     for value in [s.a, s.b, s.c].iter().take(s.count) {
-        let _ = write!(out, " {value}");
+        out.text(b" ");
+        out.number(*value);
     }
 }
 
@@ -66,7 +80,7 @@ pub fn end(out: &mut Out) {
 
 // The line for what is no event.
 pub fn error(out: &mut Out, number: u64, what: &[u8]) {
-    let _ = write!(out, "?? line {number}: ");
+    form(out, b"?? line %: ", &[number]);
     out.text(what);
     end(out);
 }

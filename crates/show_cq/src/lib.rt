@@ -5,7 +5,6 @@ use cid_queue::{CidQueue, Entry};
 use cid_ring::Cid;
 use drive_cq::Gave;
 use out::Out;
-use std::fmt::Write;
 
 // The bytes of an id.
 fn show_id(cid: Cid, out: &mut Out) {
@@ -22,19 +21,25 @@ fn show_values(g: Gave, out: &mut Out) {
         return;
     }
     if let Some(retired) = g.retired {
-        let _ = write!(out, " {}..{} ", said.a, said.b);
+        say::range(out, said.a, said.b);
+        out.text(b" ");
         out.hex(&retired.token.unwrap_or([0; 16])); // zeros where the new active id has none
     } else if let Some(cid) = g.named {
-        let _ = write!(out, " {} ", said.a);
+        out.text(b" ");
+        out.number(said.a);
+        out.text(b" ");
         show_id(cid, out);
     } else if said.count == 1 {
-        let _ = write!(out, " {}", said.a);
+        out.text(b" ");
+        out.number(said.a);
     }
 }
 
 // SEQ:CID/TOKEN of an id held.
 fn show_entry(e: Entry, out: &mut Out) {
-    let _ = write!(out, " {}:", e.seq);
+    out.text(b" ");
+    out.number(e.seq);
+    out.text(b":");
     show_id(e.cid, out);
     out.text(b"/");
     match e.cid.token {
@@ -44,7 +49,8 @@ fn show_entry(e: Entry, out: &mut Out) {
 }
 
 fn show_queue(q: CidQueue, out: &mut Out) {
-    let _ = write!(out, " | {}", q.active_seq().unwrap_or(0));
+    out.text(b" | ");
+    out.number(q.active_seq().unwrap_or(0));
     for k in 0..5 {
         if let Ok(e) = q.entry(k) {
             show_entry(e, out);

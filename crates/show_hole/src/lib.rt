@@ -3,7 +3,6 @@
 
 use black_hole::{BlackHoleDetector, Bursts};
 use out::Out;
-use std::fmt::Write;
 
 // The bursts kept.
 fn show_bursts(b: Bursts, out: &mut Out) {
@@ -12,7 +11,7 @@ fn show_bursts(b: Bursts, out: &mut Out) {
         if i > 0 {
             out.text(b",");
         }
-        let _ = write!(out, "{size}");
+        out.number(u64::from(*size));
     }
     out.text(b"]");
 }
@@ -22,9 +21,10 @@ pub fn show(d: BlackHoleDetector, out: &mut Out) {
     show_bursts(d.bursts, out);
     let c = d.current;
     if c.has {
-        let _ = write!(out, " cur={}:{}", c.latest, c.smallest);
+        say::form(out, b" cur=%:%", &[c.latest, u64::from(c.smallest)]);
     } else {
         out.text(b" cur=-");
     }
-    let _ = write!(out, " post={} acked={} min={}", d.post, d.acked, d.minimum);
+    let rest = [d.post, u64::from(d.acked), u64::from(d.minimum)];
+    say::form(out, b" post=% acked=% min=%", &rest);
 }

@@ -6,19 +6,15 @@ use mtu_phase::Phase;
 use mtu_search::SearchState;
 use mtud::{MtuDiscovery, View};
 use out::Out;
-use say::OrDash;
-use std::fmt::Write;
 
 // The peer's maximum until it is received (mtud).
 const MOST: u16 = 65527;
 
 fn show_search(s: SearchState, out: &mut Out) {
-    let fly = OrDash(s.flying.then_some(s.probe));
-    let _ = write!(
-        out,
-        "search(lo={},up={},last={},fly={fly},lost={})",
-        s.lower, s.upper, s.last, s.lost
-    );
+    let sizes = [u64::from(s.lower), u64::from(s.upper), u64::from(s.last)];
+    say::form(out, b"search(lo=%,up=%,last=%,fly=", &sizes);
+    say::or_dash(out, s.flying.then_some(s.probe));
+    say::form(out, b",lost=%)", &[u64::from(s.lost)]);
 }
 
 fn show_phase(p: Phase, out: &mut Out) {
@@ -26,24 +22,23 @@ fn show_phase(p: Phase, out: &mut Out) {
         Phase::Off => out.text(b"off"),
         Phase::Initial => out.text(b"init"),
         Phase::Searching(s) => show_search(s, out),
-        Phase::Complete(t) => {
-            let _ = write!(out, "rest({t})");
-        }
+        Phase::Complete(t) => say::form(out, b"rest(%)", &[t]),
     }
 }
 
 // With the search off the peer's maximum may be unknown.
-fn peer(v: View) -> OrDash {
+fn peer(v: View) -> Option<u64> {
     match v.phase {
-        Phase::Off => OrDash(v.peer.map(|p| u64::from(p))),
-        _ => OrDash(Some(u64::from(v.peer.unwrap_or(MOST)))),
+        Phase::Off => v.peer.map(|p| u64::from(p)),
+        _ => Some(u64::from(v.peer.unwrap_or(MOST))),
     }
 }
 
 fn show_view(v: View, out: &mut Out) {
-    let _ = write!(out, " | mtu={} ", v.mtu);
+    say::form(out, b" | mtu=% ", &[u64::from(v.mtu)]);
     show_phase(v.phase, out);
-    let _ = write!(out, " peer={}", peer(v));
+    out.text(b" peer=");
+    say::or_dash(out, peer(v));
     show_hole::show(v.detector, out);
 }
 

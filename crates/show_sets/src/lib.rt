@@ -3,12 +3,12 @@
 
 use drive_sets::{Did, Noted};
 use out::Out;
-use std::fmt::Write;
 
 // The window's line.
 pub fn window(n: Noted, out: &mut Out) {
     say::all(out, n.said);
-    let _ = write!(out, " | next={}", n.dedup.next());
+    out.text(b" | next=");
+    out.number(n.dedup.next());
 }
 
 // The answer and its values: a popped range and the parts of a replace print as ranges.

@@ -3,7 +3,6 @@
 
 use drive_st::{Books, Gave};
 use out::Out;
-use std::fmt::Write;
 use stream_conn::Conn;
 use stream_record::Stream;
 
@@ -19,15 +18,12 @@ fn name(phase: u64) -> &'static str {
 
 fn show_stream(s: Stream, id: u64, out: &mut Out) {
     if s.phase == stream_record::CLOSED {
-        let _ = write!(out, " | #{id} closed");
+        say::form(out, b" | #% closed", &[id]);
         return;
     }
-    let phase = name(s.phase);
-    let _ = write!(
-        out,
-        " | #{id} end={} read={} limit={} {phase}",
-        s.end, s.read, s.limit
-    );
+    let values = [id, s.end, s.read, s.limit];
+    say::form(out, b" | #% end=% read=% limit=% ", &values);
+    out.text(name(s.phase).as_bytes());
 }
 
 // The stream that an event names, if any: one that is refused is shown as closed.
@@ -38,29 +34,21 @@ fn show_named(about: Option<u64>, b: Books, table: &[u64], out: &mut Out) {
     };
     match streams::look(b.conn, table, b.count, id) {
         Ok(s) => show_stream(s, id, out),
-        Err(_) => {
-            let _ = write!(out, " | #{id} closed");
-        }
+        Err(_) => say::form(out, b" | #% closed", &[id]),
     }
 }
 
 fn show_conn(c: Conn, out: &mut Out) {
     let b = c.bi;
     let u = c.uni;
-    let _ = write!(
+    let values = [
+        c.charged, c.grant, c.debt, c.window, b.next, u.next, b.max, u.max, b.rmax, u.rmax,
+        b.ralloc, u.ralloc, b.rwant, u.rwant, b.rnext, u.rnext,
+    ];
+    say::form(
         out,
-        " | charged={} grant={} debt={} win={}",
-        c.charged, c.grant, c.debt, c.window
-    );
-    let _ = write!(
-        out,
-        " next={},{} max={},{} rmax={},{}",
-        b.next, u.next, b.max, u.max, b.rmax, u.rmax
-    );
-    let _ = write!(
-        out,
-        " ralloc={},{} rwant={},{} rnext={},{}",
-        b.ralloc, u.ralloc, b.rwant, u.rwant, b.rnext, u.rnext
+        b" | charged=% grant=% debt=% win=% next=%,% max=%,% rmax=%,% ralloc=%,% rwant=%,% rnext=%,%",
+        &values,
     );
 }
 

@@ -1,8 +1,12 @@
 -- Each promise is one equation for what is handed back and the lent words, so two outcomes that meet it are equal. Assumes nothing.
 use mathlib.Core.Path.{refl, sym, ap, ◌∙◌}
 use Rattle.answers.proofs.Promise.{Whole}
+use Rattle.st_call.proofs.shown as shown
 use Rattle.st_call.proofs.values as values
 use Rattle.st_call.proofs.call as call
+
+pub shown_whole : Whole shown.Kinds.ps shown.Kinds.r shown.Reads.Pre shown.Reads.Post
+shown_whole = (λ κs a. tt, λ κs a x y v w p q. (p ∙ sym q, refl))
 
 pub values_whole : Whole values.Kinds.ps values.Kinds.r values.Reads.Pre values.Reads.Post
 values_whole = (λ κs a. tt, λ κs a x y v w p q. (p ∙ sym q, refl))

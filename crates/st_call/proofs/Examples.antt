@@ -1,6 +1,7 @@
 -- What each event on a stream shows, by computing the definition. That no event is taken for another's call is in drive_st/proofs/Examples.antt.
 -- Assumes nothing.
 use mathlib.Core.Path.{◌≡◌, refl}
+use Prim.Native.Nat.{ℕ}
 use Rattle.std.specs.Prelude.{Ok, Err}
 use Rattle.answers.specs.Answers.{OK, number}
 use Rattle.answers.specs.declared.Refusal.{Refusal}
@@ -43,3 +44,21 @@ module _ (why : Refusal) where
   pub refused_sent : values_of ST_SENT (Err why) ≡ said_plain (number why)
   unfolding values_of shown_of
   refused_sent = refl
+
+-- of any numbers, those that no call gives too
+module _ (answer value charge credit : ℕ) where
+  pub any_data : shown_of ST_DATA answer value charge credit ≡ said_two answer charge credit
+  unfolding shown_of
+  any_data = refl
+
+  pub any_stop : shown_of ST_STOP answer value charge credit ≡ said_three answer charge credit value
+  unfolding shown_of
+  any_stop = refl
+
+  pub any_read : shown_of ST_READ answer value charge credit ≡ said_number answer credit
+  unfolding shown_of
+  any_read = refl
+
+  pub any_sent : shown_of ST_SENT answer value charge credit ≡ said_plain answer
+  unfolding shown_of
+  any_sent = refl

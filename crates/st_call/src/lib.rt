@@ -9,9 +9,10 @@ use answers::Refusal;
 use said::Said;
 use stream_conn::{Conn, Done};
 
-// What each event shows of an answer and the numbers with it.
+// What an event of that code shows of an answer and the numbers with it, as they are given: any number, also one that is no answer of the table, and
+// numbers beside a refusal.
 #[tactic(auto, unfolding(crate::specs::Call::shown_of))]
-fn shown(code: u8, answer: u8, value: u64, charge: u64, credit: u64) -> Said
+pub fn shown(code: u8, answer: u8, value: u64, charge: u64, credit: u64) -> Said
     ensures { result ≡ shown_of code answer value charge credit }
 {
     match code {

@@ -1,6 +1,7 @@
 -- st.new SIDE BI UNI WINDOW STREAM_WINDOW (docs/EVENTS.md): with how many streams of the peer's a connection can start, and the grant of those.
 -- Assumes nothing.
-use Rattle.std.specs.Prelude.{ℕ, ◌+◌, ◌^◌, cond, ◌||◌, List, ltb, Result, Ok, Err}
+use Rattle.std.specs.Prelude.{ℕ, ◌+◌, ◌^◌, cond, ◌||◌, List, eqb, ltb, Result, Ok, Err}
+use Rattle.answers.specs.Answers.{OK, RANGE, FULL}
 use Rattle.answers.specs.declared.Refusal.{Refusal}
 use Rattle.answers.specs.declared.Refusal.TheVariants.{Range, Full}
 use Rattle.stream_conn.specs.declared.Conn.{Conn}
@@ -13,6 +14,15 @@ use Rattle.st_new.specs.declared.Started.{Started}
 unfoldable pub startable : Result Done Refusal → ℕ → ℕ → Result Conn Refusal
 startable (Err why) bi uni = Err why
 startable (Ok d) bi uni = cond (ltb (2 ^ 60) bi || ltb (2 ^ 60) uni) (Err Range) (cond (ltb 256 (bi + uni)) (Err Full) (Ok d.conn))
+
+-- whether there is room for so many, likewise
+unfoldable pub room_of : ℕ → ℕ → Result Unit Refusal
+room_of bi uni = cond (ltb (2 ^ 60) bi || ltb (2 ^ 60) uni) (Err Range) (cond (ltb 256 (bi + uni)) (Err Full) (Ok tt))
+
+-- the same by numbers: what the record's answer was, or what the numbers of streams come to
+unfoldable pub start_answer : ℕ → ℕ → ℕ → ℕ
+start_answer a bi uni =
+    cond (eqb a OK) (cond (ltb (2 ^ 60) bi) RANGE (cond (ltb (2 ^ 60) uni) RANGE (cond (ltb 256 (bi + uni)) FULL OK))) a
 
 -- what the last grant came to with the books after it, and the lent words
 pub record Start : Type 0 where

@@ -2,7 +2,7 @@
 #![tactic(auto)]
 
 ghost use Rattle.std.specs.Prelude.{◌≡◌};
-ghost use Rattle.st_new.specs.New.{startable, granted_of, started, start_of};
+ghost use Rattle.st_new.specs.New.{room_of, start_answer, startable, granted_of, started, start_of};
 
 use answers::Refusal;
 use stream_conn::{Conn, Done};
@@ -20,18 +20,41 @@ pub struct Started {
     pub conn: Conn,
 }
 
-// The connection that was made, if so many streams can be wanted at its start and each has a place.
-#[tactic(auto, unfolding(crate::specs::New::startable))]
-pub fn startable(made: Result<Done, Refusal>, bi: u64, uni: u64) -> Result<Conn, Refusal>
-    ensures { result ≡ startable made bi uni }
+// Whether so many streams can be wanted at a start and each has a place.
+#[tactic(auto, unfolding(crate::specs::New::room_of))]
+fn room(bi: u64, uni: u64) -> Result<(), Refusal>
+    ensures { result ≡ room_of bi uni }
 {
-    let d = made?;
     if (bi > COUNTS) | (uni > COUNTS) {
         return Err(Refusal::Range);
     }
     if bi + uni > PLACES as u64 {
         return Err(Refusal::Full);
     }
+    Ok(())
+}
+
+// The answer of a start, by the number of the answer that the connection's record had: any number, also one that is no answer of the table.
+#[tactic(auto, unfolding(crate::specs::New::start_answer, crate::specs::New::room_of))]
+pub fn start_answer(answer: u8, bi: u64, uni: u64) -> u8
+    ensures { result ≡ start_answer answer bi uni }
+{
+    if answer != answers::OK {
+        return answer;
+    }
+    match room(bi, uni) {
+        Ok(()) => answers::OK,
+        Err(why) => u8::from(why),
+    }
+}
+
+// The connection that was made, if so many streams can be wanted at its start and each has a place.
+#[tactic(auto, unfolding(crate::specs::New::startable, crate::specs::New::room_of))]
+pub fn startable(made: Result<Done, Refusal>, bi: u64, uni: u64) -> Result<Conn, Refusal>
+    ensures { result ≡ startable made bi uni }
+{
+    let d = made?;
+    room(bi, uni)?;
     Ok(d.conn)
 }
 

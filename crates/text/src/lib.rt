@@ -8,7 +8,7 @@ ghost use Rattle.std.proofs.lemmas.List.Edits.{sets};
 ghost use Rattle.text.specs.Words.{word_at, is_end, unnoted, blank, solid, plain};
 ghost use Rattle.text.specs.Words.{same as Words·same};
 ghost use Rattle.text.specs.Numbers.{digit, number_of, number_at};
-ghost use Rattle.text.specs.Bytes.{hex_digit, all_hex, is_hex, unhexed, unhex_at, digits_of, bytes_at, done};
+ghost use Rattle.text.specs.Bytes.{hex_value, hex_digit, all_hex, is_hex, unhexed, unhex_at, digits_of, bytes_at, done};
 
 // The bytes of a word are those from start up to end.
 #[derive(Clone, Copy)]
@@ -156,6 +156,22 @@ fn is_hex(s: &[u8]) -> bool
     s.len() % 2 == 0 && all_hex(s)
 }
 
+// The value of what is known to be a hexadecimal digit: two tests where `hex_value` makes up to six.
+#[tactic(auto, unfolding(crate::specs::Bytes::hex_value))]
+fn nibble(b: u8) -> u8
+    requires { hex_value b < 16 }
+    ensures value { result ≡ hex_value b }
+    ensures upper_bound { result < 16 }
+{
+    if b <= b'9' {
+        b - b'0'
+    } else if b <= b'F' {
+        b - b'A' + 10
+    } else {
+        b - b'a' + 10
+    }
+}
+
 // Puts the bytes that s spells at `at` and behind it.
 fn fill(s: &[u8], out: &mut [u8], at: usize)
     requires s_value { is_hex s.now ≡ true }
@@ -163,7 +179,7 @@ fn fill(s: &[u8], out: &mut [u8], at: usize)
     ensures { out.new ≡ sets out.old at (unhexed s.now) }
 {
     for i in 0..s.len() / 2 {
-        out[at + i] = hex_value(s[2 * i]).unwrap() * 16 + hex_value(s[2 * i + 1]).unwrap();
+        out[at + i] = nibble(s[2 * i]) * 16 + nibble(s[2 * i + 1]);
     }
 }
 

@@ -7,4 +7,4 @@ use Rattle.range_list.proofs.splice_none.Goals as goal
 pub returns : goal.returns
 returns c =
     let a = c.args in
-    c.copy_within.ensures.after ∙ splice_none_is a.list.now a.count a.lo a.hi (search rules) (search rules) (search rules)
+    c.shift.ensures ∙ splice_none_is a.list.now a.count a.lo a.hi (search rules) (search rules) (search rules)

@@ -11,4 +11,4 @@ bounds-list-lo-2 c = simp length-set (omega arith)
 pub returns : goal.returns
 returns c =
     let a = c.args in
-    splice_one_is a.list.now _ a.count a.lo a.hi a.a a.b (search rules) (search rules) (search rules) (search rules) c.copy_within.ensures.after
+    splice_one_is a.list.now _ a.count a.lo a.hi a.a a.b (search rules) (search rules) (search rules) (search rules) c.shift.ensures

@@ -17,4 +17,4 @@ bounds-list-lo-4 c = simp length-set (omega arith)
 pub returns : goal.returns
 returns c =
     let a = c.args in
-    splice_two_is a.list.now _ a.count a.lo a.hi a.a a.b a.c a.d (search rules) (search rules) (search rules) (search rules) c.copy_within.ensures.after
+    splice_two_is a.list.now _ a.count a.lo a.hi a.a a.b a.c a.d (search rules) (search rules) (search rules) (search rules) c.shift.ensures
